@@ -1,0 +1,2 @@
+-- The definitions that every crate shares.
+pub mod Bytes

@@ -1,0 +1,2 @@
+-- The definition of RC4.
+pub mod Rc4
