@@ -28,7 +28,9 @@ fn first_digest(inputs: &Inputs, padded: &[u8]) -> [u8; 16]
     m.update(inputs.o);
     m.update(&permissions(inputs.p));
     m.update(inputs.id);
-    if let Revision::R4 = inputs.revision && !inputs.metadata {
+    if let Revision::R4 = inputs.revision
+        && !inputs.metadata
+    {
         m.update(&[0xFF, 0xFF, 0xFF, 0xFF]);
     }
     m.finish()

@@ -1,6 +1,6 @@
 // The entry U: Algorithms 4, 5 and 6.
-use crate::key::Key;
 use crate::inputs::Revision;
+use crate::key::Key;
 use crate::password::password_padding;
 use bytes::same;
 use md5::Md5;

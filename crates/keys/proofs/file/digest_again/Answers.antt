@@ -18,9 +18,9 @@ loop-i-again c =
     let z : c .args .n - 0 ≡ c .args .n = omega arith in (
       search needs,
       c .calculate-hash .ensures
-      ∙ ap (λ k. md5 (take k (c .loop-i .hash))) z
-      ∙ ap (λ x. md5 (take (c .args .n) x)) (c .loop-i .inv .1)
-      ∙ sym (again-more (c .args .n) (c .loop-i .i) (c .args .digest)),
+          ∙ ap (λ k. md5 (take k (c .loop-i .hash))) z
+          ∙ ap (λ x. md5 (take (c .args .n) x)) (c .loop-i .inv .1)
+          ∙ sym (again-more (c .args .n) (c .loop-i .i) (c .args .digest)),
     )
 
 pub returns : need.returns

@@ -27,6 +27,6 @@ returns c =
     record {
       state = rw none at (c .loop-i .inv .2);
       writes =
-        sym (take-append-drop (c .loop-i .i) (c .loop-i .out))
-        ∙ ap₂ _++_ front (c .loop-i .inv .1 ∙ ap (λ n. drop n (c .args .out .now)) (all ∙ sym long));
+          sym (take-append-drop (c .loop-i .i) (c .loop-i .out))
+          ∙ ap₂ _++_ front (c .loop-i .inv .1 ∙ ap (λ n. drop n (c .args .out .now)) (all ∙ sym long));
     }

@@ -1,0 +1,9 @@
+-- The table holds the products of the definition.
+use borrow.Author.Needs.{needs}
+use Rattle.aes.specs.Field.{product}
+use Rattle.aes.proofs.Table.{rule}
+use Rattle.aes.proofs.field.times_11.Needs as need
+
+pub returns : need.returns
+unfolding product
+returns c = rule (product 11) (c .args .b) (search needs)

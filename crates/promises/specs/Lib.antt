@@ -1,0 +1,3 @@
+-- What the calls of the reader promise together.
+pub mod Calls
+pub mod Promises

@@ -1,0 +1,2 @@
+-- The law of the method that goes by a tag.
+pub mod Lawful

@@ -1,0 +1,3 @@
+-- What the tags stand for.
+pub mod State
+pub mod Tag

@@ -1,0 +1,2 @@
+-- Lemmas on the framed form.
+pub mod Unframing

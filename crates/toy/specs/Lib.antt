@@ -1,0 +1,2 @@
+-- The meaning of the toy method.
+pub mod Framed
