@@ -5,7 +5,6 @@ use filters::series::Series1;
 use filters::series::Series2;
 use lines::cases::text_lines;
 use lines::job::Job;
-use lines::job::is_quiet;
 use lines::render::Entry;
 use lines::render::EntryDisplay;
 use lines::render::Line;
@@ -16,6 +15,7 @@ use std::env;
 use std::error::AnyError;
 use std::fs;
 use std::io::Read;
+use tagged::tag::DecryptorCrypt;
 use tagged::tag::DecryptorTag;
 
 // What the words behind the program's name ask for.
@@ -27,7 +27,7 @@ struct Options {
     job: Option<String>,
 }
 
-fn options(rt: &LibcRuntime) -> Result<Options, AnyError> {
+fn read_options(rt: &LibcRuntime) -> Result<Options, AnyError> {
     let mut found = Options {
         lines: false,
         job: None,
@@ -53,18 +53,19 @@ fn read_job(rt: &LibcRuntime, job: Option<String>) -> Result<Vec<u8>, AnyError> 
     }
 }
 
-// One answer, as a line or in words. A line with a paper's fields has no answer.
-fn show(
+// One answer, as a line or in words. A comment has no answer, and a paper's fields have none as a line.
+fn show<'a>(
     rt: &LibcRuntime,
     lines: bool,
     number: usize,
-    line: &[u8],
-    reply: &Reply,
+    line: &'a [u8],
+    reply: &'a Reply,
 ) -> Result<(), AnyError> {
-    if !lines {
-        println!(rt, "{}", Entry(number, line, reply))?;
-    } else if !matches!(reply, Reply::Noted) {
-        println!(rt, "{}", Line(reply))?;
+    match reply {
+        Reply::Quiet => {}
+        Reply::Noted if lines => {}
+        _ if lines => println!(rt, "{}", Line(reply))?,
+        _ => println!(rt, "{}", Entry(number, line, reply))?,
     }
     Ok(())
 }
@@ -75,10 +76,8 @@ fn carry_out(rt: &LibcRuntime, lines: bool, text: &[u8]) -> Result<(), AnyError>
     let mut number: usize = 0;
     for line in text_lines(heap, text)?.iter() {
         number = number.saturating_add(1);
-        if !is_quiet(line) {
-            let reply = job.answer(heap, line);
-            show(rt, lines, number, line, &reply)?;
-        }
+        let reply = job.answer(heap, line);
+        show(rt, lines, number, line, &reply)?;
     }
     Ok(())
 }
@@ -86,7 +85,7 @@ fn carry_out(rt: &LibcRuntime, lines: bool, text: &[u8]) -> Result<(), AnyError>
 fn run(rt: &LibcRuntime) -> Result<(), AnyError> {
     // what the calls below promise together, for the shipped series and methods
     let _ = promises::<Series1, Series2, DecryptorTag>();
-    let options = options(rt)?;
+    let options = read_options(rt)?;
     let text = read_job(rt, options.job)?;
     carry_out(rt, options.lines, text.as_slice())
 }

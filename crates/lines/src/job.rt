@@ -128,7 +128,7 @@ impl Job {
 }
 
 // Whether a line is empty or a comment.
-pub fn is_quiet(line: &[u8]) -> bool
+fn is_quiet(line: &[u8]) -> bool
     ensures { λ r. ⌜ r ≡ isQuiet (now (line .entry)) ⌝ }
 {
     match line {

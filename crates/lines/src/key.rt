@@ -76,7 +76,7 @@ const ALL: [Key; 31] = [
 
 impl Key {
     // The name as it stands in a line.
-    pub fn name(self) -> &'static str
+    pub(crate) fn name(self) -> &'static str
         ensures { λ r. ⌜ now r ≡ nameOf self ⌝ }
     {
         match self {

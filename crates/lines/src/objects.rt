@@ -20,7 +20,6 @@ use aes::Aes128Cipher;
 use aes::Aes256Cipher;
 use bytes::same;
 use chained::state::ChainedRunning;
-use filters::tag::Tag;
 use methods::identity::IdentityRunning;
 use methods::rc4_method::Rc4Running;
 use opening::file::File;
@@ -35,7 +34,6 @@ use reader::object::start;
 use reader::object::start_with;
 use reader::output::Output;
 use reader::run::Run;
-use reader::tag::method_of;
 use std::alloc::Global;
 use tagged::state::OneRunning;
 use tagged::tag::DecryptorCrypt;
@@ -72,9 +70,16 @@ fn method(call: &Call) -> Result<Option<DecryptorTag>, Fault> {
     let Some(text) = call.text(Key::Method) else {
         return Ok(None);
     };
-    match Tag::from_name(text) {
-        Some(tag) => Ok(Some(method_of(Some(tag)))),
-        None => Err(Fault::Bad(Key::Method, Flaw::NotListed)),
+    if same(text, b"None") {
+        Ok(Some(DecryptorTag::None))
+    } else if same(text, b"V2") {
+        Ok(Some(DecryptorTag::Rc4))
+    } else if same(text, b"AESV2") {
+        Ok(Some(DecryptorTag::Aes128))
+    } else if same(text, b"AESV3") {
+        Ok(Some(DecryptorTag::Aes256))
+    } else {
+        Err(Fault::Bad(Key::Method, Flaw::NotListed))
     }
 }
 

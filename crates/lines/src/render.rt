@@ -21,10 +21,10 @@ fn hex<W: fmt::Write>(f: &mut fmt::Formatter<W>, bytes: &[u8]) -> fmt::Result {
     Ok(())
 }
 
-// Whether every byte is a printable ASCII character.
+// Whether every byte is a printable ASCII character or ends a line.
 fn is_text(bytes: &[u8]) -> bool {
     for b in bytes {
-        if *b < 0x20 || *b > 0x7e {
+        if (*b < 0x20 || *b > 0x7e) && *b != b'\n' {
             return false;
         }
     }
@@ -39,7 +39,11 @@ fn shown<W: fmt::Write>(f: &mut fmt::Formatter<W>, bytes: &[u8]) -> fmt::Result 
     write!(f, "\"")?;
     for b in bytes {
         let c = *b as char;
-        write!(f, "{c}")?;
+        if c == '\n' {
+            write!(f, "\\n")?;
+        } else {
+            write!(f, "{c}")?;
+        }
     }
     write!(f, "\"")
 }

@@ -1,10 +1,8 @@
 -- What restoring answers where there is space enough.
-use Prim.Native.Nat.{ℕ, _≤_, _<_}
+use Prim.Native.Nat.{ℕ}
 use mathlib.Core.Path.{_≡_, refl, sym, ap, subst, _∙_}
 use mathlib.Core.Logic.{_⊎_, inl, inr}
 use mathlib.Core.Bool.{Bool, true, false}
-use mathlib.Core.List.{List, [], _++_}
-use native.Mathlib.Omega.{arith}
 use lib.ListN.{length, take, drop}
 use Rattle.std.proofs.shelf.Lists.{take-at}
 use Rattle.std.proofs.shelf.Tests.{cases-lt}
@@ -18,7 +16,6 @@ use Rattle.filters.specs.Series.{Below}
 use Rattle.methods.specs.Identity.{copying}
 use Rattle.methods.specs.Running.{Residual, space}
 use Rattle.methods.specs.Method.{Scheme, Lawful, Sound}
-use Rattle.tagged.specs.Tag.{tag-scheme}
 use Rattle.tagged.proofs.Lawful.{tag-lawful}
 use Rattle.opening.specs.declared.file.Target.{Target}
 use Rattle.opening.specs.declared.file.Target.the-variants as target
@@ -31,9 +28,9 @@ use Rattle.reader.specs.declared.output.Mark.the-variants as mark
 use Rattle.reader.specs.declared.output.Output.{Output}
 use Rattle.reader.specs.Key.{key-for}
 use Rattle.reader.specs.Tag.{method-for, scheme-for, mark-for}
-use Rattle.reader.specs.Object.{Choice, tagged, handed, scheme-of, mark-of, key-under, Protected, Protects-under, Gives, Recovered, Restores-under, Resolved, Restores, Protects}
-use Rattle.promises.specs.Calls.{Call, Goes, intake}
-use Rattle.promises.specs.Promises.{Enough, Each, Comes-back, Same-file, As-restoring, Runs-agree, Answers-as, Passes, Restores-as}
+use Rattle.reader.specs.Object.{Choice, tagged, scheme-of, mark-of, key-under, Protected, Protects-under, Gives, Recovered, Restores-under, Resolved}
+use Rattle.promises.specs.Calls.{intake}
+use Rattle.promises.specs.Promises.{Enough, Each, Comes-back, Same-file, Runs-agree, Answers-as, Passes, Restores-as}
 use Rattle.promises.proofs.Keys.{key-bytes}
 use Rattle.promises.proofs.Runs.{clash, run-agrees}
 

@@ -1,12 +1,12 @@
 -- The keys of files and objects are bytes.
-use Prim.Native.Nat.{ℕ, zero, suc, _+_, _-_, _%_, _/_, _<_, min}
-use mathlib.Core.Path.{_≡_, sym, subst}
-use mathlib.Core.List.{List, [], _∷_, _++_}
+use Prim.Native.Nat.{ℕ, zero, suc, _+_, _-_, _/_, _<_, min}
+use mathlib.Core.Path.{sym, subst}
+use mathlib.Core.List.{_++_}
 use mathlib.Core.Bool.{Bool, true, false}
 use native.Mathlib.Omega.{arith}
 use lib.Dec.{lit<}
 use lib.IntN.{ℤ}
-use lib.ListN.{length, take, replicate}
+use lib.ListN.{length, take}
 use Rattle.std.specs.declared.option.Option.{Option}
 use Rattle.bytes.specs.Bytes.{Bytes, Octets, zeros}
 use Rattle.cbc.proofs.Parts.{take-bytes, append-bytes, replicate-bytes}

@@ -3,10 +3,8 @@ use Prim.Native.Nat.{ℕ, _<_, _≤_}
 use mathlib.Core.Path.{_≡_, refl, sym, ap, subst, _∙_}
 use mathlib.Core.Logic.{inl, inr}
 use mathlib.Core.List.{_++_}
-use native.Mathlib.Omega.{arith}
-use lib.Dec.{ltb}
 use lib.ListN.{length, take, drop}
-use denote.Ref.{RefT, now}
+use denote.Ref.{now}
 use Rattle.std.proofs.shelf.Lists.{take-at}
 use Rattle.std.proofs.shelf.Tests.{cases-lt, lt-ltb, le-ltb}
 use Rattle.std.specs.declared.option.Option.{Option}
@@ -14,7 +12,7 @@ use Rattle.std.specs.declared.result.Result.{Result}
 use Rattle.std.specs.declared.result.Result.the-variants.{Ok, Err}
 use Rattle.bytes.specs.Bytes.{Bytes, Octets}
 use Rattle.filters.specs.declared.tag.Tag.{Tag}
-use Rattle.filters.specs.Series.{Named, Knows}
+use Rattle.filters.specs.Series.{Named}
 use Rattle.keys.proofs.KeyLaws.{long}
 use Rattle.methods.specs.Method.{Scheme, Lawful}
 use Rattle.opening.specs.declared.fields.Fields.{Fields}
@@ -22,8 +20,8 @@ use Rattle.opening.specs.declared.file.File.{File}
 use Rattle.opening.specs.declared.refusal.Refusal.{Refusal}
 use Rattle.opening.specs.declared.refusal.Refusal.the-variants.{WorkSpace}
 use Rattle.opening.specs.File.{Opened, viewed, readFile}
-use Rattle.opening.specs.Open.{opened, Opens}
-use Rattle.opening.specs.SetUp.{Made, setUp, madeFile, written, SetsUp}
+use Rattle.opening.specs.Open.{opened}
+use Rattle.opening.specs.SetUp.{Made, setUp, madeFile, written}
 use Rattle.opening.specs.Laws.{OpeningLaws, Alike, withU}
 use Rattle.promises.specs.Promises.{Enough, Set-up-opens, Same-key, Smaller-opens}
 use Rattle.promises.proofs.Keys.{set-bytes}

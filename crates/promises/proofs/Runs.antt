@@ -1,12 +1,11 @@
 -- Runs under any list of calls, from what each call answers.
 use mathlib.Core.Path.{_≡_, refl, sym, ap, subst, _∙_}
 use mathlib.Core.Logic.{_⊎_, inl, inr}
-use mathlib.Core.Bool.{Bool, true, false, cond}
+use mathlib.Core.Bool.{Bool, cond}
 use mathlib.Core.List.{List, [], _∷_, _++_, append-assoc}
-use Prim.Native.Nat.{ℕ, _<_, _≤_}
+use Prim.Native.Nat.{ℕ}
 use native.Mathlib.Omega.{arith}
 use lib.ListN.{length, take, drop}
-use lib.Dec.{eqb}
 use Rattle.std.proofs.shelf.Lists.{take-at, append-nil}
 use Rattle.std.proofs.shelf.Tests.{cases-lt, cases-eq, eq-eqb, ne-eqb}
 use Rattle.std.specs.declared.option.Option.{Option}
@@ -19,7 +18,7 @@ use Rattle.opening.specs.declared.refusal.Refusal.{Refusal}
 use Rattle.reader.specs.declared.output.Mark.{Mark}
 use Rattle.reader.specs.declared.output.Output.{Output}
 use Rattle.reader.specs.Run.{Standing, Takes, Ends}
-use Rattle.promises.specs.Calls.{Action, starting, feeding, closing, Call, Answered, Goes, Continues, Started-before, taken, given-out, marked, along, intake, output, closings, Agrees}
+use Rattle.promises.specs.Calls.{Action, starting, feeding, closing, Call, Answered, Goes, Continues, Started-before, taken, given-out, marked, intake, output, closings, Agrees}
 
 -- From here on a run takes in x, hands out y and answers the marks z.
 abbrev Sound : Option Residual → Mark → Bytes → Bytes → List Mark → Type 0

@@ -1,7 +1,6 @@
 // Protecting and restoring the objects of a file, and starting runs on them: by the file's tag for the target, or by a
 // method that is handed in, and then the tag plays no part.
 ghost use mathlib.Core.Path.{_≡_};
-ghost use lib.ListN.{length};
 ghost use Rattle.methods.specs.Running.{space, told};
 ghost use Rattle.opening.specs.File.{viewed};
 ghost use Rattle.reader.specs.Object.{Protects, Restores, Begins, tagged, handed, Protects-under, Restores-under, Starts-under, key-under};

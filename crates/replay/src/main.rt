@@ -2,9 +2,9 @@
 use lines::cases::case_parts;
 use lines::cases::text_lines;
 use lines::job::Job;
-use lines::job::is_quiet;
 use lines::render::Line;
 use lines::render::LineDisplay;
+use lines::reply::Reply;
 use std::env;
 use std::error::AnyError;
 use std::fs;
@@ -16,17 +16,27 @@ struct Tally {
     wrong: usize,
 }
 
-// Whether the answer to a case is the expected one; shows it where it is not.
-fn agrees(rt: &LibcRuntime, name: &str, number: usize, line: &[u8]) -> Result<bool, AnyError> {
+// One case more; shows the answer where it is not the expected one.
+fn count(
+    rt: &LibcRuntime,
+    name: &str,
+    number: usize,
+    line: &[u8],
+    tally: &mut Tally,
+) -> Result<(), AnyError> {
     let heap = rt.alloc();
     let (call, expected) = case_parts(line);
     let reply = Job::new(heap).answer(heap, call);
-    let said = format!(heap, "{}", Line(&reply))?;
-    if said.as_bytes() == expected {
-        return Ok(true);
+    if matches!(reply, Reply::Quiet) {
+        return Ok(());
     }
-    println!(rt, "{name}, line {number}: {said}")?;
-    Ok(false)
+    tally.cases = tally.cases.saturating_add(1);
+    let said = format!(heap, "{}", Line(&reply))?;
+    if said.as_bytes() != expected {
+        tally.wrong = tally.wrong.saturating_add(1);
+        println!(rt, "{name}, line {number}: {said}")?;
+    }
+    Ok(())
 }
 
 fn replay(rt: &LibcRuntime, name: &str) -> Result<Tally, AnyError> {
@@ -35,13 +45,7 @@ fn replay(rt: &LibcRuntime, name: &str) -> Result<Tally, AnyError> {
     let mut number: usize = 0;
     for line in text_lines(rt.alloc(), text.as_slice())?.iter() {
         number = number.saturating_add(1);
-        if is_quiet(line) {
-            continue;
-        }
-        tally.cases = tally.cases.saturating_add(1);
-        if !agrees(rt, name, number, line)? {
-            tally.wrong = tally.wrong.saturating_add(1);
-        }
+        count(rt, name, number, line, &mut tally)?;
     }
     Ok(tally)
 }

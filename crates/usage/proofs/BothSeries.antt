@@ -1,9 +1,7 @@
 -- The second series knows every text that the first knows.
-use Prim.Native.Nat.{ℕ}
-use mathlib.Core.Path.{_≡_, refl, ap}
+use mathlib.Core.Path.{ap}
 use Rattle.std.specs.declared.option.Option.{Option}
 use Rattle.std.specs.declared.option.Option.the-variants.{Some, None}
-use Rattle.bytes.specs.Bytes.{Bytes}
 use Rattle.filters.specs.declared.tag.Tag.{Tag}
 use Rattle.filters.specs.Series.{Knows, early, firstTag}
 use Rattle.filters.specs.Tag.{standardTag}

@@ -5,7 +5,7 @@ use mathlib.Core.List.{List, [], _∷_, _++_, map}
 use lib.IntN.{pos, negsuc}
 use lib.ListN.{replicate}
 use Rattle.std.specs.declared.option.Option.the-variants.{Some}
-use Rattle.bytes.specs.Bytes.{Bytes, zeros}
+use Rattle.bytes.specs.Bytes.{zeros}
 use Rattle.cbc.specs.Pad.{paddingOf}
 use Rattle.filters.specs.declared.tag.Tag.the-variants.{AESV2}
 use Rattle.keys.specs.Numbers.{lowBytesOf}
