@@ -1,3 +1,4 @@
+-- The second round writes its function with the operands the other way round.
 use mathlib.Core.Path.{_≡_, ap₂, _∙_}
 use lib.Bits.{bitOr, and-comm}
 use borrow.Author.Needs.{needs}

@@ -1,3 +1,4 @@
+-- One step more, and the sums at the end.
 use mathlib.Core.Path.{_≡_, refl, sym, ap, _∙_}
 use native.Mathlib.Omega.{arith}
 use Rattle.md5.specs.declared.Registers.{Registers}

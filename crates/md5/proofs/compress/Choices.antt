@@ -1,3 +1,4 @@
+-- So many steps so far.
 use mathlib.Core.Path.{_≡_}
 use Rattle.md5.specs.Md5.{words, steps}
 use Rattle.md5.proofs.compress.Given as given

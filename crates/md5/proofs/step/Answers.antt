@@ -1,3 +1,4 @@
+-- A step from its parts, with the tables against their rules.
 use lib.ListN.{getD}
 use Rattle.md5.specs.Md5.{sines}
 use Rattle.md5.proofs.Steps.{shifts, shift-at, step-is}

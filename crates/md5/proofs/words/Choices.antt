@@ -1,3 +1,4 @@
+-- The words so far, and those of the bytes that are left.
 use mathlib.Core.Path.{_≡_}
 use mathlib.Core.List.{_++_}
 use Prim.Native.Nat.{_+_, _-_, _*_}

@@ -1,3 +1,4 @@
+-- The table and the index after so many rounds.
 use mathlib.Core.Path.{_≡_}
 use lib.ListN.{length}
 use Rattle.rc4.specs.Rc4.{rounds}

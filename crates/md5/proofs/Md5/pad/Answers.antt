@@ -1,3 +1,4 @@
+-- The fill and the length are the padding, and complete a block.
 use mathlib.Core.Path.{_≡_, sym, ap, _∙_}
 use mathlib.Core.List.{List, _∷_, _++_}
 use mathlib.Core.Logic.{inl, inr}

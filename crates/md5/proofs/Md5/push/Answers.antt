@@ -1,3 +1,4 @@
+-- A byte that completes the block, and one that does not.
 use mathlib.Core.Path.{_≡_, refl, ap, _∙_}
 use mathlib.Core.List.{_++_}
 use Prim.Native.Nat.{_+_, _%_, _^_}

@@ -1,3 +1,4 @@
+-- A whole block in front of the rest.
 use mathlib.Core.Path.{_≡_, refl, ap, _∙_}
 use mathlib.Core.List.{_++_}
 use Prim.Native.Nat.{_+_, _%_, _^_}

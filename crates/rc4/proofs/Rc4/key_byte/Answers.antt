@@ -1,3 +1,4 @@
+-- The key byte stands at the sum of the two values that were traded.
 use mathlib.Core.Path.{_≡_, refl}
 use lib.ListN.{length}
 use borrow.Author.Needs.{needs}
