@@ -1,4 +1,7 @@
 // AES (FIPS 197) with keys of 16 and of 32 bytes, fast by tables of words.
+
+#![tactic(auto)]
+
 ghost use Rattle.std.specs.Prelude.{◌≡◌, length, MatchOption, ◌≢◌};
 ghost use Rattle.aes.specs.Cipher.{rijndael, aes128, aes256};
 ghost use Rattle.aes.specs.CipherLaws.{rijndael_invertible};

@@ -1,4 +1,7 @@
 // Byte strings: the one comparison that every layer above makes.
+
+#![tactic(auto)]
+
 ghost use Rattle.std.specs.Prelude.{◌≡◌};
 ghost use Rattle.std.specs.Str.{bytes_eq};
 

@@ -1,4 +1,7 @@
 // Cipher block chaining with padding, over any block cipher.
+
+#![tactic(auto)]
+
 mod blocks;
 mod chaining;
 mod pad;

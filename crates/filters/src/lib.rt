@@ -1,5 +1,7 @@
 // Crypt filters: the filter table, the series that give method texts their tags, and looking a filter up.
 
+#![tactic(auto)]
+
 pub mod laws;
 pub mod lookup;
 pub mod series;

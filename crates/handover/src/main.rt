@@ -1,4 +1,7 @@
 // Carries out a job, a text of calls, and writes a record of it: `handover [--lines] [JOB]`.
+
+#![tactic(auto)]
+
 use filters::series::{Series1, Series2};
 use lines::cases::text_lines;
 use lines::job::Job;

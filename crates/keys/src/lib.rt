@@ -1,4 +1,7 @@
 // The keys of the standard security handler: the padded password, the file key, the entry U and the keys of objects.
+
+#![tactic(auto)]
+
 mod file;
 mod inputs;
 mod key;

@@ -1,4 +1,7 @@
 // The line format: a call read from text, and its answer written as text.
+
+#![tactic(auto)]
+
 mod call;
 pub mod cases;
 pub mod fault;

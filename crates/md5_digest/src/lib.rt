@@ -1,4 +1,7 @@
 // MD5 by RFC 1321, fed in pieces.
+
+#![tactic(auto)]
+
 ghost use Rattle.std.specs.Prelude.{◌≡◌, ℕ, ◌+◌, ◌%◌, ◌^◌, ◌<◌, List, [], ◌∷◌, ◌++◌, length};
 ghost use Rattle.md5_digest.specs.Md5.{mixed, word_number, compressed, digest, digested, Completes, HasSixteenBytes};
 ghost use Rattle.md5_digest.specs.Md5.{step as step_of, words as words_of, md5 as md5_of};

@@ -1,4 +1,7 @@
 // What opening, setting up, protecting, restoring and runs promise together.
+
+#![tactic(auto)]
+
 ghost use Rattle.promises.specs.Promises.{Promises};
 
 use filters::series::Series;

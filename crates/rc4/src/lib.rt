@@ -1,4 +1,7 @@
 // RC4 as a cipher state that is fed bytes in pieces.
+
+#![tactic(auto)]
+
 ghost use Rattle.std.specs.Prelude.{◌≡◌, ◌<◌, ◌≤◌, length, MatchOption};
 ghost use Rattle.rc4.specs.Rc4.{identity, rounds, keyed, next, key_byte, stream, after, Applied, Joins, Undoes, HoldsEachOnce};
 ghost use Rattle.byte_strings.specs.Bytes.{Writes};

@@ -1,4 +1,7 @@
 // Replays cases: lines of calls with their expected answers. Says how many agree, and lists those that do not.
+
+#![tactic(auto)]
+
 use lines::cases::{case_parts, text_lines};
 use lines::job::Job;
 use lines::render::Line;

@@ -1,4 +1,7 @@
 // The calls of the reader put to use under its promises, and the worked examples.
+
+#![tactic(auto)]
+
 pub mod both_series;
 pub mod examples;
 pub mod framed;

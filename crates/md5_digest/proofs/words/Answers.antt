@@ -11,7 +11,7 @@ loop-i-preserved c =
     let four : 4 ≤ length c.loop-i.left.now = omega arith in (
       simp length-set c.loop-i.invariant.0,
       simp (length-take, length-drop) (omega arith),
-      words_more c.loop-i.words c.loop-i.left.now c.loop-i.i c.from-le-bytes.result c.loop-i-test.true c.loop-i.invariant.0 four c.from-le-bytes.ensures ∙ c.loop-i.invariant.2,
+      words_more c.loop-i.words c.loop-i.left.now c.loop-i.i c.from_le_bytes.result c.loop-i-test.true c.loop-i.invariant.0 four c.from_le_bytes.ensures ∙ c.loop-i.invariant.2,
     )
 
 pub returns-in-default : goal.returns-in-default

@@ -9,8 +9,8 @@ pub loop-left-preserved-then-left-ge64 : goal.loop-left-preserved-then-left-ge64
 loop-left-preserved-then-left-ge64 c =
     let left = c.loop-left.left.now in
     let long : 64 ≤ length c.loop-left.left.now = omega arith in
-    left_more c.args.self.now c.args.piece.now c.loop-left.self left c.take-block.new.self (take 64 left) 64
-    c.loop-left.invariant (sym (take-append-drop 64 left)) long c.take-block.ensures.absorbs c.take-block.ensures.counts
+    left_more c.args.self.now c.args.piece.now c.loop-left.self left c.take_block.new.self (take 64 left) 64
+    c.loop-left.invariant (sym (take-append-drop 64 left)) long c.take_block.ensures.absorbs c.take_block.ensures.counts
 
 pub loop-left-preserved : goal.loop-left-preserved
 loop-left-preserved c =

@@ -12,15 +12,15 @@ range c = elim c.if-at-lt56.branch [ then-at-lt56 w ↦ (omega (arith, w.fill-is
 fills : (c : goal.After-absorb-2) → Fills c.args.self.now.count c.if-at-lt56.fill
 fills c = elim c.if-at-lt56.branch [ then-at-lt56 w ↦ inl (omega (arith, w.fill-is)) | else-at-lt56 w ↦ inr (omega (arith, w.fill-is)) ]
 
-long : (c : goal.After-absorb-2) → c.to-le-bytes.result ≡ low_bytes 8 ((c.args.self.now.count * 8) % 2 ^ 64)
-long c = c.to-le-bytes.ensures ∙ low_bytes_8 ((c.args.self.now.count * 8) % 2 ^ 64)
+long : (c : goal.After-absorb-2) → c.to_le_bytes.result ≡ low_bytes 8 ((c.args.self.now.count * 8) % 2 ^ 64)
+long c = c.to_le_bytes.ensures ∙ low_bytes_8 ((c.args.self.now.count * 8) % 2 ^ 64)
 
 pub returns : goal.returns
 returns c =
     let m = c.args.self.now in
     let fill = c.if-at-lt56.fill in
     let front = take (fill - 0) filler in
-    let bits = c.to-le-bytes.result in
+    let bits = c.to_le_bytes.result in
     finished m c.absorb.new.self c.absorb-2.new.self front bits
     (padding_part m.count fill (range c) (fills c) bits (long c)) c.absorb.ensures.absorbs c.absorb-2.ensures.absorbs
     (whole-blocks m.count c.absorb.new.self.count c.absorb-2.new.self.count fill (length front) (length bits) (fills c)
