@@ -14,8 +14,8 @@ loop-i-preserved c =
       words_more c.loop-i.words c.loop-i.left.now c.loop-i.i c.from_le_bytes.result c.loop-i-test.true c.loop-i.invariant.0 four c.from_le_bytes.ensures ∙ c.loop-i.invariant.2,
     )
 
-pub returns-in-default : goal.returns-in-default
-returns-in-default c = let z : ⊥ = omega (arith, ltb-true) in absurd z
+pub returns-in_default : goal.returns-in_default
+returns-in_default c = let z : ⊥ = omega (arith, ltb-true) in absurd z
 
 pub returns : goal.returns
 returns c = words_all c.loop-i.words c.loop-i.left.now c.loop-i.i (omega arith) c.loop-i.invariant.0 ∙ c.loop-i.invariant.2

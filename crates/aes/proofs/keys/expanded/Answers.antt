@@ -9,15 +9,15 @@ pub loop-i-init : goal.loop-i-init
 loop-i-init g c =
     let four : length c.args.key.now / 4 ≡ c.args.nk = omega arith in (
       search rules,
-      subst (λ n. take n c.key-words-w.result ≡ key_words n c.args.key.now) four c.key-words-w.ensures
+      subst (λ n. take n c.key_words-w.result ≡ key_words n c.args.key.now) four c.key_words-w.ensures
           ∙ extended_none c.args.nk c.args.nk (key_words c.args.nk c.args.key.now) refl,
     )
 
 pub loop-i-preserved : goal.loop-i-preserved
 loop-i-preserved g c = (
   search rules,
-  extended_more c.args.nk c.loop-i.i c.loop-i.w (key_words c.args.nk c.args.key.now) c.next-word-word.result (omega arith) (omega arith) (omega arith)
-      c.next-word-word.ensures c.loop-i.invariant.1,
+  extended_more c.args.nk c.loop-i.i c.loop-i.w (key_words c.args.nk c.args.key.now) c.next_word-word.result (omega arith) (omega arith) (omega arith)
+      c.next_word-word.ensures c.loop-i.invariant.1,
 )
 
 pub returns : goal.returns

@@ -9,7 +9,7 @@ pub loop-j-init : goal.loop-j-init
 loop-j-init c = filled_none _ _ refl
 
 pub loop-j-preserved : goal.loop-j-preserved
-loop-j-preserved c = filled_more _ c.loop-j.out c.loop-j.j _ (omega arith) (ap (bit_xor _) c.mask-byte.ensures) c.loop-j.invariant
+loop-j-preserved c = filled_more _ c.loop-j.out c.loop-j.j _ (omega arith) (ap (bit_xor _) c.mask_byte.ensures) c.loop-j.invariant
 
 pub returns : goal.returns
 unfolding next_word

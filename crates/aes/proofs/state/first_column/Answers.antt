@@ -7,6 +7,6 @@ use Rattle.aes.proofs.state.first_column.Goals as goal
 
 pub returns : goal.returns
 returns c =
-    ap bytes_of (ap₂ bit_xor c.from-le-bytes.ensures c.from-le-bytes-2.ensures)
+    ap bytes_of (ap₂ bit_xor c.from_le_bytes.ensures c.from_le_bytes-2.ensures)
     ∙ packed-added c.args.key.now c.fits-key (get_or c.args.block.now (c.args.i * 4) 0) (get_or c.args.block.now (c.args.i * 4 + 1) 0)
     (get_or c.args.block.now (c.args.i * 4 + 2) 0) (get_or c.args.block.now (c.args.i * 4 + 3) 0) (c.fits-block _) (c.fits-block _) (c.fits-block _) (c.fits-block _)

@@ -6,4 +6,4 @@ use Rattle.aes.proofs.state.first_round.Goals as goal
 pub returns : goal.returns
 unfolding unpacked
 returns c =
-    added-words c.args.w.now c.args.n c.args.block.now c.first-column.ensures c.first-column-2.ensures c.first-column-3.ensures c.first-column-4.ensures
+    added-words c.args.w.now c.args.n c.args.block.now c.first_column.ensures c.first_column-2.ensures c.first_column-3.ensures c.first_column-4.ensures

@@ -8,4 +8,4 @@ use Rattle.aes.proofs.state.inv_last_round.Goals as goal
 pub returns : goal.returns
 unfolding unpacked inv_shift_rows inv_sub_bytes
 returns c =
-    c.joined.ensures ∙ added-words c.args.w.now c.args.n (inv_shift_rows (inv_sub_bytes (unpacked c.args.s.now))) c.inv-last-column.ensures c.inv-last-column-2.ensures c.inv-last-column-3.ensures c.inv-last-column-4.ensures
+    c.joined.ensures ∙ added-words c.args.w.now c.args.n (inv_shift_rows (inv_sub_bytes (unpacked c.args.s.now))) c.inv_last_column.ensures c.inv_last_column-2.ensures c.inv_last_column-3.ensures c.inv_last_column-4.ensures

@@ -7,4 +7,4 @@ use Rattle.aes.proofs.state.inv_round.Goals as goal
 pub returns : goal.returns
 unfolding unpacked mixed inv_mix_columns inv_shift_rows inv_sub_bytes
 returns c =
-    added-words c.args.w.now c.args.n (inv_mix_columns (inv_shift_rows (inv_sub_bytes (unpacked c.args.s.now)))) c.inv-column.ensures c.inv-column-2.ensures c.inv-column-3.ensures c.inv-column-4.ensures
+    added-words c.args.w.now c.args.n (inv_mix_columns (inv_shift_rows (inv_sub_bytes (unpacked c.args.s.now)))) c.inv_column.ensures c.inv_column-2.ensures c.inv_column-3.ensures c.inv_column-4.ensures

@@ -8,5 +8,5 @@ use Rattle.aes.proofs.state.last_column.Goals as goal
 pub returns : goal.returns
 unfolding added
 returns c =
-    four (ap (λ x. bit_xor x (get_or c.args.key.now 0 0)) c.sub-byte.ensures.value) (ap (λ x. bit_xor x (get_or c.args.key.now 1 0)) c.sub-byte-2.ensures.value)
-    (ap (λ x. bit_xor x (get_or c.args.key.now 2 0)) c.sub-byte-3.ensures.value) (ap (λ x. bit_xor x (get_or c.args.key.now 3 0)) c.sub-byte-4.ensures.value)
+    four (ap (λ x. bit_xor x (get_or c.args.key.now 0 0)) c.sub_byte.ensures.value) (ap (λ x. bit_xor x (get_or c.args.key.now 1 0)) c.sub_byte-2.ensures.value)
+    (ap (λ x. bit_xor x (get_or c.args.key.now 2 0)) c.sub_byte-3.ensures.value) (ap (λ x. bit_xor x (get_or c.args.key.now 3 0)) c.sub_byte-4.ensures.value)

@@ -8,4 +8,4 @@ use Rattle.aes.proofs.state.last_round.Goals as goal
 pub returns : goal.returns
 unfolding unpacked shift_rows sub_bytes
 returns c =
-    c.joined.ensures ∙ added-words c.args.w.now c.args.n (shift_rows (sub_bytes (unpacked c.args.s.now))) c.last-column.ensures c.last-column-2.ensures c.last-column-3.ensures c.last-column-4.ensures
+    c.joined.ensures ∙ added-words c.args.w.now c.args.n (shift_rows (sub_bytes (unpacked c.args.s.now))) c.last_column.ensures c.last_column-2.ensures c.last_column-3.ensures c.last_column-4.ensures

@@ -4,5 +4,5 @@ use Rattle.cbc.proofs.chaining.restore_behind.Goals as goal
 
 pub returns : goal.returns
 returns g c =
-    restored-written (g.C.BlockCipher.permutation c.args.cipher.now) c.args.stored.now c.block-at.result c.decrypt-cbc.result c.args.out.now c.decrypt-cbc.new.out
-    c.block-at.ensures c.decrypt-cbc.ensures
+    restored-written (g.C.BlockCipher.permutation c.args.cipher.now) c.args.stored.now c.block_at.result c.decrypt_cbc.result c.args.out.now c.decrypt_cbc.new.out
+    c.block_at.ensures c.decrypt_cbc.ensures

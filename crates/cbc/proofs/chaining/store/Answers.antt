@@ -11,5 +11,5 @@ returns g c =
     record {
       writes = placed_behind c.args.vector.now (encrypted p c.args.vector.now c.args.data.now) c.args.out.now c.put_block.new.out c.chain.new.out
           c.told-vector c.put_block.ensures c.chain.ensures.writes;
-      law = round_trip p (g.met.C.BlockCipher.invertible c.args.cipher.now) c.args.vector.now c.args.data.now (c.told-vector, c.fits-vector) (λ i. (c.type-inv.data i).fits);
+      law = round_trip p (g.met.C.BlockCipher.invertible c.args.cipher.now) c.args.vector.now c.args.data.now (c.told-vector, c.fits-vector) (λ i. (c.type_inv.data i).fits);
     }

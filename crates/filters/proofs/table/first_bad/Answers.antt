@@ -5,13 +5,13 @@ use Rattle.filters.specs.Table.{first_bad}
 use Rattle.filters.proofs.Entries.{bad_step}
 use Rattle.filters.proofs.table.first_bad.Goals as goal
 
-pub returns-then-not-in-order : goal.returns-then-not-in-order
-returns-then-not-in-order c =
-    sym (bad_step _ _ _ _ _ false c.loop-i-test.true c.if-not-in-order.ensures) ∙ c.loop-i.invariant
+pub returns-then-not-in_order : goal.returns-then-not-in_order
+returns-then-not-in_order c =
+    sym (bad_step _ _ _ _ _ false c.loop-i-test.true c.if-not-in_order.ensures) ∙ c.loop-i.invariant
 
 pub loop-i-preserved : goal.loop-i-preserved
 loop-i-preserved c =
-    let e = bad_step _ _ _ _ _ true c.loop-i-test.true c.if-not-in-order.ensures in
+    let e = bad_step _ _ _ _ _ true c.loop-i-test.true c.if-not-in_order.ensures in
     let f = c.end-end.ensures in
     let i = c.loop-i.invariant in cc
 

@@ -8,4 +8,4 @@ pub returns : goal.returns
 unfolding file_key
 returns c =
     let n = c.args.inputs.now.size.n in
-    ap (take n) (c.digest-again.ensures ∙ ap₂ (λ (k : ℕ) (x : Bytes). again n k x) c.turns.ensures c.first-digest-digest.ensures)
+    ap (take n) (c.digest_again.ensures ∙ ap₂ (λ (k : ℕ) (x : Bytes). again n k x) c.turns.ensures c.first_digest-digest.ensures)

@@ -3,4 +3,4 @@ use Rattle.keys.proofs.Pads.{cut_is}
 use Rattle.keys.proofs.key.cut.Goals as goal
 
 pub returns : goal.returns
-returns c = cut_is c.args.bytes.now _ c.args.n c.requires c.copy-from-slice.ensures.after
+returns c = cut_is c.args.bytes.now _ c.args.n c.requires c.copy_from_slice.ensures.after

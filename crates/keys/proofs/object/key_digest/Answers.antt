@@ -10,5 +10,5 @@ returns c =
     let key = c.args.key.now in
     let object : to_z w32 (of_z w32 c.args.object) ≡ c.args.object = search rules in
     let generation : to_z w32 (of_z w32 c.args.generation) ≡ c.args.generation = search rules in
-    let five = c.object-bytes.ensures ∙ ap₂ (λ (o g : ℤ). object_bytes o g) object generation in
+    let five = c.object_bytes.ensures ∙ ap₂ (λ (o g : ℤ). object_bytes o g) object generation in
     ap (take (min 16 (length key + 5))) (c.digest.ensures ∙ ap (λ xs. md5 (key ++ (xs ++ salt c.args.salted))) five)

@@ -6,4 +6,4 @@ use Rattle.keys.proofs.password.write_padded.Goals as goal
 pub returns : goal.returns
 unfolding password_padding
 returns c =
-    pad_is c.args.area.now c.args.password.now _ _ c.min-n.result c.min-n.ensures c.requires c.copy-from-slice.ensures.after c.copy-from-slice-2.ensures.after
+    pad_is c.args.area.now c.args.password.now _ _ c.min-n.result c.min-n.ensures c.requires c.copy_from_slice.ensures.after c.copy_from_slice-2.ensures.after

@@ -8,7 +8,7 @@ use Rattle.keys.proofs.user.repeat.Goals as goal
 
 pub loop-i-init : goal.loop-i-init
 unfolding repeated
-loop-i-init c = c.encrypt.ensures ∙ ap (λ k. rc4 k c.args.digest.now) c.as-bytes.ensures.value
+loop-i-init c = c.encrypt.ensures ∙ ap (λ k. rc4 k c.args.digest.now) c.as_bytes.ensures.value
 
 pub loop-i-preserved : goal.loop-i-preserved
 loop-i-preserved c =

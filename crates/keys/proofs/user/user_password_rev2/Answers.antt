@@ -7,4 +7,4 @@ use Rattle.keys.proofs.user.user_password_rev2.Goals as goal
 
 pub returns : goal.returns
 unfolding user_password2
-returns c = c.encrypt.ensures ∙ ap₂ (λ (k x : Bytes). rc4 k x) c.as-bytes.ensures.value c.password-padding.ensures
+returns c = c.encrypt.ensures ∙ ap₂ (λ (k x : Bytes). rc4 k x) c.as_bytes.ensures.value c.password_padding.ensures

@@ -9,5 +9,5 @@ pub returns : goal.returns
 returns c =
     let k = key_of c.args.key.now in
     let out = c.args.out.now in
-    ap (λ x. x ++ drop 32 out) (c.copy-from-slice.ensures.after ∙ c.user-entry.ensures)
+    ap (λ x. x ++ drop 32 out) (c.copy_from_slice.ensures.after ∙ c.user_entry.ensures)
     ∙ ap (λ n. user_entry c.args.revision c.args.id.now k ++ drop n out) (sym (long c.args.revision c.args.id.now k))

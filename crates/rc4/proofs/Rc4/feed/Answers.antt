@@ -9,9 +9,9 @@ loop-i-preserved c =
     let i = c.loop-i.i in
     let hx : c.loop-i.i < length c.args.input.now = omega arith in
     let ho : c.loop-i.i < length c.loop-i.out = omega arith in (
-      write_more c.loop-i.self c.key-byte.new.self c.args.input.now c.loop-i.out i c.key-byte.result hx ho c.key-byte.ensures.steps c.key-byte.ensures.byte ∙ c.loop-i.invariant.0,
+      write_more c.loop-i.self c.key_byte.new.self c.args.input.now c.loop-i.out i c.key_byte.result hx ho c.key_byte.ensures.steps c.key_byte.ensures.byte ∙ c.loop-i.invariant.0,
       behind_more c.loop-i.out c.args.out.now i _ c.loop-i.invariant.1,
-      after_more c.loop-i.self c.key-byte.new.self c.args.input.now i hx c.key-byte.ensures.steps ∙ c.loop-i.invariant.2,
+      after_more c.loop-i.self c.key_byte.new.self c.args.input.now i hx c.key_byte.ensures.steps ∙ c.loop-i.invariant.2,
     )
 
 pub returns : goal.returns

@@ -9,5 +9,5 @@ returns c =
     let long : length c.args.data.now + 16 - 16 ≡ length c.args.data.now = omega arith in
     record {
       count = sym (framed_length c.args.vector.now d c.told-vector);
-      writes = protects c.args.vector.now d c.copy-from-slice.new.self c.copy-from-slice-2.new.self c.args.out.now _ _ c.told-vector refl long c.requires c.copy-from-slice.ensures.after c.copy-from-slice-2.ensures.after;
+      writes = protects c.args.vector.now d c.copy_from_slice.new.self c.copy_from_slice-2.new.self c.args.out.now _ _ c.told-vector refl long c.requires c.copy_from_slice.ensures.after c.copy_from_slice-2.ensures.after;
     }

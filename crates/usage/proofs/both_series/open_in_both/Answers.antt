@@ -13,5 +13,5 @@ returns g c =
     record {
       first = subst (λ w. Opens first_tag f password c.args.work.now c.open-first.result w) cleared c.open-first.ensures;
       second = subst (λ w. Opens standard_tag f password w c.open-second.result c.open-second.new.work) cleared c.open-second.ensures;
-      agree = c.second-knows-more.ensures f password c.args.work.now c.open-first.new.work c.open-first.new.work c.open-second.new.work c.open-first.result c.open-second.result c.open-first.ensures c.open-second.ensures;
+      agree = c.second_knows_more.ensures f password c.args.work.now c.open-first.new.work c.open-first.new.work c.open-second.new.work c.open-first.result c.open-second.result c.open-first.ensures c.open-second.ensures;
     }

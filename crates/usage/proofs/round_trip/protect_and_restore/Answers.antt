@@ -5,17 +5,17 @@ use Rattle.reader.specs.Object.{handed}
 use Rattle.usage.proofs.Returning.{stored_fits, returned, refused_for_space}
 use Rattle.usage.proofs.round_trip.protect_and_restore.Goals as goal
 
-pub slice-bounds-restore-with-end : goal.slice-bounds-restore-with-end
-slice-bounds-restore-with-end g c = let h = stored_fits _ _ _ _ _ _ c.in-ok-n.ensures in omega arith
+pub slice_bounds-restore_with-end : goal.slice_bounds-restore_with-end
+slice_bounds-restore_with-end g c = let h = stored_fits _ _ _ _ _ _ c.in_ok-n.ensures in omega arith
 
 pub unreachable-requires : goal.unreachable-requires
 unreachable-requires g c =
     refused_for_space (viewed c.args.pair.made) (viewed c.args.pair.file) (handed (g.M.CryptMethod.scheme c.args.method.now)) (c.requires.across.by_method c.args.method.now) c.args.object _ _ _ _ _ _ _ _
-    c.told-vector c.fits-vector (λ i. (c.type-inv.data i).fits) c.in-ok-n.ensures (omega arith)
-    c.in-Err.refusal c.in-Err.ensures c.in-default.not-WorkSpace c.in-default.not-USpace c.in-default.not-NoSpace
+    c.told-vector c.fits-vector (λ i. (c.type_inv.data i).fits) c.in_ok-n.ensures (omega arith)
+    c.in-Err.refusal c.in-Err.ensures c.in_default.not-WorkSpace c.in_default.not-USpace c.in_default.not-NoSpace
 
 pub returns-in-Ok : goal.returns-in-Ok
 returns-in-Ok g c =
     returned (viewed c.args.pair.made) (viewed c.args.pair.file) (handed (g.M.CryptMethod.scheme c.args.method.now)) (c.requires.across.by_method c.args.method.now) c.args.object _ _ _ _ _ _ _ _
-    c.told-vector c.fits-vector (λ i. (c.type-inv.data i).fits) c.in-ok-n.ensures (omega arith)
+    c.told-vector c.fits-vector (λ i. (c.type_inv.data i).fits) c.in_ok-n.ensures (omega arith)
     c.in-Ok.output c.in-Ok.ensures

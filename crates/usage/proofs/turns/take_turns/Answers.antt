@@ -9,14 +9,14 @@ pub returns : goal.returns
 returns g c =
     let means = g.State.Running.means in
     let t : Turns = record {
-      first_fed = c.feed-first-fed.result;
-      second_fed = c.feed-second-fed.result;
-      first_closed = c.close-first-closed.result;
-      second_closed = c.close-second-closed.result;
+      first_fed = c.feed-first_fed.result;
+      second_fed = c.feed-second_fed.result;
+      first_closed = c.close-first_closed.result;
+      second_closed = c.close-second_closed.result;
     } in
-    turned (standing tag_means c.args.first.now) (standing tag_means c.feed-first-fed.new.self) (standing tag_means c.close-first-closed.new.self)
-    (standing means c.args.second.now) (standing means c.feed-second-fed.new.self) (standing means c.close-second-closed.new.self)
-    c.args.p.now c.args.q.now c.args.w.now c.feed-first-fed.new.out c.args.x.now c.feed-second-fed.new.out
-    c.args.y.now c.close-first-closed.new.out c.args.z.now c.close-second-closed.new.out t
-    c.feed-first-fed.ensures.fed c.feed-second-fed.ensures.fed c.close-first-closed.ensures.shut c.close-second-closed.ensures.shut
+    turned (standing tag_means c.args.first.now) (standing tag_means c.feed-first_fed.new.self) (standing tag_means c.close-first_closed.new.self)
+    (standing means c.args.second.now) (standing means c.feed-second_fed.new.self) (standing means c.close-second_closed.new.self)
+    c.args.p.now c.args.q.now c.args.w.now c.feed-first_fed.new.out c.args.x.now c.feed-second_fed.new.out
+    c.args.y.now c.close-first_closed.new.out c.args.z.now c.close-second_closed.new.out t
+    c.feed-first_fed.ensures.fed c.feed-second_fed.ensures.fed c.close-first_closed.ensures.shut c.close-second_closed.ensures.shut
     g.M.CryptMethod.scheme c.promises.ensures.runs_agree

@@ -8,5 +8,5 @@ pub returns : goal.returns
 returns g c =
     let long : length c.args.self.now.words ≡ g.row.ROUNDS * 4 + 4 =
     omega (arith, schedule_length c.args.self.now.words, ap length c.args.self.now.inverted, c.requires.1) in
-    c.decrypt-words.ensures ∙ ap (λ w. eq_inv_cipher w g.row.ROUNDS c.args.block.now) c.args.self.now.inverted
+    c.decrypt_words.ensures ∙ ap (λ w. eq_inv_cipher w g.row.ROUNDS c.args.block.now) c.args.self.now.inverted
     ∙ equivalent c.args.self.now.words c.args.self.now.bytes g.row.ROUNDS long c.args.block.now (search rules) (c.told-block, c.fits-block)

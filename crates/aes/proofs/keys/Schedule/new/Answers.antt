@@ -4,6 +4,6 @@ use Rattle.aes.specs.Keys.{Words}
 use Rattle.aes.proofs.KeyLaws.{expanded_bytes}
 use Rattle.aes.proofs.keys.Schedule.new.Goals as goal
 
-pub invariant-of-result : goal.invariant-of-result
-invariant-of-result g c =
-    (subst Words (sym c.expanded-words.ensures) (expanded_bytes c.args.nk (g.row.N - c.args.nk) c.args.key.now (λ i. (c.type-inv.key i).fits)), (c.inverted-inverse.ensures, tt))
+pub invariant_of-result : goal.invariant_of-result
+invariant_of-result g c =
+    (subst Words (sym c.expanded-words.ensures) (expanded_bytes c.args.nk (g.row.N - c.args.nk) c.args.key.now (λ i. (c.type_inv.key i).fits)), (c.inverted-inverse.ensures, tt))

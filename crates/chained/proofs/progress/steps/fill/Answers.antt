@@ -7,7 +7,7 @@ use Rattle.chained.proofs.progress.steps.fill.Goals as goal
 pub returns : goal.returns
 returns c = record {
   count = c.min-n.ensures;
-  joins = filled_up c.args.part.now c.copy-from-slice.new.self c.args.piece.now c.args.filled c.min-n.result c.requires c.told-part c.min-n.ensures c.copy-from-slice.ensures.after;
-  full = λ most. filled-whole c.args.part.now c.copy-from-slice.new.self c.args.piece.now c.args.filled c.min-n.result c.requires c.told-part c.min-n.ensures c.copy-from-slice.ensures.after most;
+  joins = filled_up c.args.part.now c.copy_from_slice.new.self c.args.piece.now c.args.filled c.min-n.result c.requires c.told-part c.min-n.ensures c.copy_from_slice.ensures.after;
+  full = λ most. filled-whole c.args.part.now c.copy_from_slice.new.self c.args.piece.now c.args.filled c.min-n.result c.requires c.told-part c.min-n.ensures c.copy_from_slice.ensures.after most;
   keeps = search (rules, places);
 }

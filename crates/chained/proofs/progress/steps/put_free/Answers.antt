@@ -11,5 +11,5 @@ returns-in-None c =
 pub returns-in-Some : goal.returns-in-Some
 returns-in-Some c =
     let sixteen : length c.in-Some.block ≡ 16 = search rules in
-    let put = put_block c.args.free c.in-Some.block c.args.at c.args.out.now c.put-front.new.out c.in-Some.is sixteen c.put-front.ensures in
+    let put = put_block c.args.free c.in-Some.block c.args.at c.args.out.now c.put_front.new.out c.in-Some.is sixteen c.put_front.ensures in
     record { end = put.0; writes = put.1 }

@@ -5,8 +5,8 @@ use Rattle.cbc.proofs.PaddingLaws.{padding_few}
 use Rattle.chained.specs.Advancing.{unpadded_few}
 use Rattle.chained.proofs.progress.steps.unpadded_len.Goals as goal
 
-pub overflow-sub-result : goal.overflow-sub-result
-overflow-sub-result c = omega (arith, c.padding.ensures, padding_few c.args.block.now)
+pub overflow_sub-result : goal.overflow_sub-result
+overflow_sub-result c = omega (arith, c.padding.ensures, padding_few c.args.block.now)
 
 pub returns : goal.returns
 returns c =

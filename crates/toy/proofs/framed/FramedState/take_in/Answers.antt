@@ -10,5 +10,5 @@ returns-then-body-eq0 c =
 pub returns : goal.returns
 returns c =
     let s = c.args.self.now in
-    let both = c.write-both-count in
+    let both = c.write_both-count in
     fed_some s.missing c.min-skip.result c.args.piece.now c.min-skip.ensures s.held c.args.out.now both.new.out both.result c.if-body-eq0.false both.ensures.count both.ensures.writes
