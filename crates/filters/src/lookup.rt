@@ -49,7 +49,7 @@ fn last_named(block: &[u8], entries: &[FilterEntry], name: &[u8]) -> Option<Filt
 
 // What the table and the series say of the filter of this name.
 pub fn look_up<'a, S: Series>(series: &S, table: FilterTable<'a>, name: &'a [u8]) -> Lookup<'a>
-    ensures { read result ≡ looked_up (meaning series.now) (table_of table.entry) name.now }
+    ensures { read result ≡ looked_up (S.meaning series.now) (table_of table.entry) name.now }
 {
     let Some(e) = last_named(table.block, table.entries, name) else {
         return Lookup::NotListed(name);

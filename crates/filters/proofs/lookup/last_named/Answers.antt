@@ -4,13 +4,13 @@ use Rattle.std.proofs.lemmas.List.{at_drop_all}
 use Rattle.filters.specs.Table.{or_else, last_named}
 use Rattle.filters.proofs.Entries.{named_more}
 use Rattle.filters.proofs.lookup.last_named.Goals as goal
-use Rattle.filters.proofs.lookup.last_named.Goals.{then_same, else_same}
+use Rattle.filters.proofs.lookup.last_named.Goals.{then-same, else-same}
 
 pub loop-e-preserved : goal.loop-e-preserved
 loop-e-preserved c =
     elim c.if-same.branch [
-      | then_same w ↦ sym (named_more _ _ _ _ _ _ _ _ true c.loop-e-test.true c.part.ensures w.if-same.ensures w.last_is) ∙ c.loop-e.invariant
-      | else_same w ↦ sym (named_more _ _ _ _ _ _ _ _ false c.loop-e-test.true c.part.ensures w.if-same.ensures w.last_is) ∙ c.loop-e.invariant
+      | then-same w ↦ sym (named_more _ _ _ _ _ _ _ _ true c.loop-e-test.true c.part.ensures w.if-same.ensures w.last-is) ∙ c.loop-e.invariant
+      | else-same w ↦ sym (named_more _ _ _ _ _ _ _ _ false c.loop-e-test.true c.part.ensures w.if-same.ensures w.last-is) ∙ c.loop-e.invariant
     ]
 
 pub returns : goal.returns
