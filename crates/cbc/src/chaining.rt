@@ -10,14 +10,14 @@ use aes::BlockCipher;
 
 // Encrypts one block behind the stored block `before`.
 fn protect_block<C: BlockCipher>(cipher: &C, before: &[u8; 16], block: &[u8; 16]) -> [u8; 16]
-    ensures { result ≡ (permutation cipher.now).forward (xor_blocks block.now before.now) }
+    ensures { result ≡ (C.permutation cipher.now).forward (xor_blocks block.now before.now) }
 {
     cipher.encrypt_block(&xor_blocks(block, before))
 }
 
 // Decrypts one stored block behind the stored block `before`.
 pub fn restore_block<C: BlockCipher>(cipher: &C, before: &[u8; 16], block: &[u8; 16]) -> [u8; 16]
-    ensures { result ≡ xor_blocks ((permutation cipher.now).back block.now) before.now }
+    ensures { result ≡ xor_blocks ((C.permutation cipher.now).back block.now) before.now }
 {
     xor_blocks(&cipher.decrypt_block(block), before)
 }
@@ -25,8 +25,8 @@ pub fn restore_block<C: BlockCipher>(cipher: &C, before: &[u8; 16], block: &[u8;
 // Writes the data and its padding, chained.
 fn chain<C: BlockCipher>(cipher: &C, data: &[u8], iv: &[u8; 16], out: &mut [u8])
     requires { padded_length (length «data».now) ≤ length out.old }
-    ensures long { length (encrypted (permutation cipher.now) iv.now «data».now) ≡ padded_length (length «data».now) }
-    ensures writes { Writes (encrypted (permutation cipher.now) iv.now «data».now) out.old out.new }
+    ensures long { length (encrypted (C.permutation cipher.now) iv.now «data».now) ≡ padded_length (length «data».now) }
+    ensures writes { Writes (encrypted (C.permutation cipher.now) iv.now «data».now) out.old out.new }
 {
     let mut before = *iv;
     for n in 0..data.len() / 16 + 1 {
@@ -52,8 +52,8 @@ fn unchain<C: BlockCipher>(
     out: &mut [u8],
 ) -> usize
     requires { complete_length (length «data».now) ≤ length out.old }
-    ensures count { result ≡ length (decrypted (permutation cipher.now) unpad iv.now «data».now) }
-    ensures writes { Writes (decrypted (permutation cipher.now) unpad iv.now «data».now) out.old out.new }
+    ensures count { result ≡ length (decrypted (C.permutation cipher.now) unpad iv.now «data».now) }
+    ensures writes { Writes (decrypted (C.permutation cipher.now) unpad iv.now «data».now) out.old out.new }
 {
     let blocks = data.len() / 16;
     if blocks == 0 {
@@ -76,8 +76,8 @@ fn unchain<C: BlockCipher>(
 // Writes what protecting the data stores.
 fn store<C: BlockCipher>(cipher: &C, vector: &[u8; 16], data: &[u8], out: &mut [u8])
     requires { stored_length (length «data».now) ≤ length out.old }
-    ensures writes { Writes (protected (permutation cipher.now) vector.now «data».now) out.old out.new }
-    ensures law { RoundTrip (permutation cipher.now) vector.now «data».now }
+    ensures writes { Writes (protected (C.permutation cipher.now) vector.now «data».now) out.old out.new }
+    ensures law { RoundTrip (C.permutation cipher.now) vector.now «data».now }
 {
     put_block(out, 0, vector);
     chain(cipher, data, vector, &mut out[16..]);
@@ -86,7 +86,7 @@ fn store<C: BlockCipher>(cipher: &C, vector: &[u8; 16], data: &[u8], out: &mut [
 // Restores stored bytes that have a start vector: everything behind it goes to the chaining.
 fn restore_behind<C: BlockCipher>(cipher: &C, stored: &[u8], out: &mut [u8]) -> Option<usize>
     requires { 16 ≤ length stored.now }
-    ensures { Written (complete_length (length stored.now - 16)) (restored (permutation cipher.now) stored.now) result out.old out.new }
+    ensures { Written (complete_length (length stored.now - 16)) (restored (C.permutation cipher.now) stored.now) result out.old out.new }
 {
     decrypt_cbc(cipher, &stored[16..], &block_at(stored, 0), true, out)
 }
@@ -98,7 +98,7 @@ pub fn encrypt_cbc<C: BlockCipher>(
     iv: &[u8; 16],
     out: &mut [u8],
 ) -> Option<usize>
-    ensures { Written (padded_length (length «data».now)) (encrypted (permutation cipher.now) iv.now «data».now) result out.old out.new }
+    ensures { Written (padded_length (length «data».now)) (encrypted (C.permutation cipher.now) iv.now «data».now) result out.old out.new }
 {
     let blocks = data.len() / 16 + 1;
     if out.len() / 16 < blocks {
@@ -116,7 +116,7 @@ pub fn decrypt_cbc<C: BlockCipher>(
     unpad: bool,
     out: &mut [u8],
 ) -> Option<usize>
-    ensures { Written (complete_length (length «data».now)) (decrypted (permutation cipher.now) unpad iv.now «data».now) result out.old out.new }
+    ensures { Written (complete_length (length «data».now)) (decrypted (C.permutation cipher.now) unpad iv.now «data».now) result out.old out.new }
 {
     if out.len() / 16 < data.len() / 16 {
         return None;
@@ -138,8 +138,8 @@ pub fn protect<C: BlockCipher>(
     data: &[u8],
     out: &mut [u8],
 ) -> Option<usize>
-    ensures answer { Written (stored_length (length «data».now)) (protected (permutation cipher.now) vector.now «data».now) result out.old out.new }
-    ensures law { MatchOption result (length out.old < stored_length (length «data».now)) (λ _. RoundTrip (permutation cipher.now) vector.now «data».now) }
+    ensures answer { Written (stored_length (length «data».now)) (protected (C.permutation cipher.now) vector.now «data».now) result out.old out.new }
+    ensures law { MatchOption result (length out.old < stored_length (length «data».now)) (λ _. RoundTrip (C.permutation cipher.now) vector.now «data».now) }
 {
     let blocks = data.len() / 16 + 2;
     if out.len() / 16 < blocks {
@@ -152,7 +152,7 @@ pub fn protect<C: BlockCipher>(
 // Writes what was protected: the complete blocks behind the start vector, unchained and without their padding. None without a start vector.
 pub fn restore<C: BlockCipher>(cipher: &C, stored: &[u8], out: &mut [u8]) -> Option<usize>
     ensures short { length stored.now < 16 → (result ≡ None) × (out.new ≡ out.old) }
-    ensures whole { 16 ≤ length stored.now → Written (complete_length (length stored.now - 16)) (restored (permutation cipher.now) stored.now) result out.old out.new }
+    ensures whole { 16 ≤ length stored.now → Written (complete_length (length stored.now - 16)) (restored (C.permutation cipher.now) stored.now) result out.old out.new }
 {
     if stored.len() < 16 {
         return None;
