@@ -76,7 +76,7 @@ fn check_filter(fields: &Fields) -> Result<(), Refusal>
 
 // The tags by the filter table.
 fn listed_tags<S: Series>(series: &S, fields: &Fields) -> Result<Tags, Refusal>
-    ensures { result ≡ listed_tags (meaning series.now) fields.now }
+    ensures { result ≡ listed_tags (S.meaning series.now) fields.now }
 {
     if let Some(i) = fields.table.bad_entry() {
         return Err(Refusal::BadTable(i));
@@ -94,7 +94,7 @@ fn listed_tags<S: Series>(series: &S, fields: &Fields) -> Result<Tags, Refusal>
 
 // The tags: RC4 under V 1 and 2, and by the filter table under V 4.
 fn tags<S: Series>(series: &S, fields: &Fields, version: Version) -> Result<Tags, Refusal>
-    ensures { result ≡ tags_of (meaning series.now) fields.now version }
+    ensures { result ≡ tags_of (S.meaning series.now) fields.now version }
 {
     match version {
         Version::V1 | Version::V2 => Ok(Tags {
@@ -107,7 +107,7 @@ fn tags<S: Series>(series: &S, fields: &Fields, version: Version) -> Result<Tags
 
 // The checks from Filter to the key's length.
 pub(crate) fn admit<S: Series>(series: &S, fields: &Fields) -> Result<Head, Refusal>
-    ensures is { result ≡ admitted (meaning series.now) fields.now }
+    ensures is { result ≡ admitted (S.meaning series.now) fields.now }
     ensures some { IfOk result (λ h. 1 ≤ h.n) }
 {
     check_filter(fields)?;

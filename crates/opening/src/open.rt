@@ -32,7 +32,7 @@ fn open_in<S: Series>(
     password: &[u8],
     area: &mut [u8],
 ) -> Result<File, Refusal>
-    ensures { read_file result ≡ opened (meaning series.now) fields.now password.now (length area.old) }
+    ensures { read_file result ≡ opened (S.meaning series.now) fields.now password.now (length area.old) }
 {
     let Some(n) = pad_password(password, area) else {
         return Err(Refusal::WorkSpace);
@@ -59,7 +59,7 @@ pub fn open<S: Series>(
     password: &[u8],
     work: &mut [u8],
 ) -> Result<File, Refusal>
-    ensures { Opens (meaning series.now) fields.now password.now work.old result work.new }
+    ensures { Opens (S.meaning series.now) fields.now password.now work.old result work.new }
 {
     let area = WorkArea { bytes: work };
     open_in(series, fields, password, area.bytes)

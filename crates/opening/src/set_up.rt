@@ -44,7 +44,7 @@ fn set_up_in<S: Series>(
     area: &mut [u8],
     out: &mut [u8],
 ) -> Result<File, Refusal>
-    ensures { Makes (set_up (meaning series.now) fields.now password.now (length area.old) (length out.old)) result out.old out.new }
+    ensures { Makes (set_up (S.meaning series.now) fields.now password.now (length area.old) (length out.old)) result out.old out.new }
 {
     let Some(n) = pad_password(password, area) else {
         return Err(Refusal::WorkSpace);
@@ -70,7 +70,7 @@ pub fn set_up<S: Series>(
     work: &mut [u8],
     out: &mut [u8],
 ) -> Result<File, Refusal>
-    ensures { SetsUp (meaning series.now) fields.now password.now work.old out.old result work.new out.new }
+    ensures { SetsUp (S.meaning series.now) fields.now password.now work.old out.old result work.new out.new }
 {
     let area = WorkArea { bytes: work };
     set_up_in(series, fields, password, area.bytes, out)

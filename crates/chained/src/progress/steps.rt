@@ -26,7 +26,7 @@ fn complete_blocks(last: Last) -> usize
 
 // One block more.
 fn advance<C: BlockCipher>(cipher: &C, last: Last, block: [u8; 16]) -> Last
-    ensures { result ≡ advanced (permutation cipher.now) last block }
+    ensures { result ≡ advanced (C.permutation cipher.now) last block }
 {
     match last {
         Last::Nothing => Last::Vector(block),
