@@ -7,7 +7,7 @@ use Rattle.usage.proofs.turns.take_turns.Goals as goal
 
 pub returns : goal.returns
 returns g c =
-    let means = g.State.Running.means in
+    let means = g.M.State.Running.means in
     let t : Turns = record {
       first_fed = c.feed-first_fed.result;
       second_fed = c.feed-second_fed.result;
