@@ -1,5 +1,5 @@
 -- What the layers above use of the keys: lengths, and that the U that a key gives agrees with it.
-use Rattle.std.proofs.Common.{◌≡◌, ℕ, zero, suc, ◌+◌, ◌≤◌, min, Bool, true, List, ◌++◌, length, take, ℤ, sym, refl, ap, ◌∙◌, arith, rules}
+use Rattle.std.proofs.Common.{◌≡◌, ℕ, zero, suc, ◌+◌, ◌≤◌, min, Bool, true, ◌++◌, length, take, ℤ, ◌∙◌, arith, rules}
 use lib.ListN.{length-replicate}
 use Rattle.std.specs.Str.{bytes_eq}
 use Rattle.std.proofs.lemmas.Slice.Eq.{bytes_eq-Decides}
@@ -9,11 +9,10 @@ use Rattle.md5_digest.specs.Md5.{md5}
 use Rattle.md5_digest.proofs.Padding.{sixteen}
 use Rattle.rc4.specs.Rc4.{rc4, keyed}
 use Rattle.rc4.proofs.Streams.{length-stream}
-use Rattle.keys.specs.declared.inputs.Revision.{Revision}
 use Rattle.keys.specs.declared.inputs.Revision.TheVariants.{R2, R3, R4}
 use Rattle.keys.specs.Password.{password_padding}
 use Rattle.keys.specs.File.{Basis, hashed, again, turns, file_key}
-use Rattle.keys.specs.User.{key_xor, repeated, user_password2, user_password34, user_entry, agrees, HasLength32, OwnAgrees}
+use Rattle.keys.specs.User.{key_xor, repeated, user_password2, user_password34, HasLength32, OwnAgrees}
 use Rattle.keys.specs.Object.{object_key}
 
 length-rc4 : (key x : Bytes) → length (rc4 key x) ≡ length x

@@ -1,5 +1,5 @@
 -- The repeated digests and encryptions, one turn more, and an encryption into a buffer of its own.
-use Rattle.std.proofs.Common.{◌≡◌, ℕ, ◌+◌, ◌<◌, List, [], ◌++◌, length, take, drop, Some, None, Option, sym, refl, ap, ◌∙◌, add-one, arith}
+use Rattle.std.proofs.Common.{◌≡◌, ℕ, ◌+◌, [], ◌++◌, length, take, drop, Some, None, Option, refl, ap, ◌∙◌, add-one, arith}
 use Rattle.std.proofs.lemmas.List.{drop_all, append-nil}
 use Rattle.byte_strings.specs.Bytes.{Bytes}
 use Rattle.md5_digest.specs.Md5.{md5}

@@ -1,5 +1,5 @@
 -- The key of an object: Algorithm 1.
-use Rattle.std.specs.Prelude.{ℕ, ◌+◌, min, Bool, cond, [], ◌++◌, length, take, ℤ, codes}
+use Rattle.std.specs.Prelude.{◌+◌, min, Bool, cond, [], ◌++◌, length, take, ℤ, codes}
 use Rattle.byte_strings.specs.Bytes.{Bytes}
 use Rattle.md5_digest.specs.Md5.{md5}
 use Rattle.keys.specs.Numbers.{low_bytes_of}

@@ -1,9 +1,8 @@
 -- The last steps: the padding completes the last block.
-use Rattle.std.proofs.Common.{◌≡◌, ℕ, suc, ◌+◌, ◌-◌, ◌*◌, ◌/◌, ◌%◌, ◌^◌, ◌<◌, ◌≤◌, ◌⊎◌, List, [], ◌∷◌, ◌++◌, length, take, replicate, sym, refl, ap, ◌∙◌, ap₂, inl, inr, append_assoc, add-zero, arith}
-use lib.ListN.{length-replicate}
+use Rattle.std.proofs.Common.{◌≡◌, ℕ, suc, ◌+◌, ◌-◌, ◌*◌, ◌/◌, ◌%◌, ◌^◌, ◌<◌, ◌≤◌, ◌⊎◌, List, [], ◌∷◌, ◌++◌, length, take, replicate, sym, refl, ap, ◌∙◌, ap₂, inl, inr, add-zero, arith}
 use Rattle.std.proofs.lemmas.List.{take-replicate, append-nil, length-take-le}
 use Rattle.md5_digest.specs.declared.Md5.{Md5}
-use Rattle.md5_digest.specs.Md5.{absorbed, low_bytes, padding, digest}
+use Rattle.md5_digest.specs.Md5.{low_bytes, padding, digest}
 use Rattle.md5_digest.specs.Stream.{absorbing, digest_after}
 use Rattle.md5_digest.proofs.Padding.{low_bytes_same}
 

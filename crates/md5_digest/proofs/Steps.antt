@@ -1,5 +1,5 @@
 -- One step, from its parts as the code has them.
-use Rattle.std.proofs.Common.{◌≡◌, ℕ, ◌+◌, ◌-◌, ◌*◌, ◌/◌, ◌%◌, ◌^◌, ◌<◌, Bool, T, eqb, ltb, List, [], ◌∷◌, ◌++◌, length, get_or, sym, refl, ap, ◌∙◌, ap₂, add-one, arith, eqb→eq, ltb→lt}
+use Rattle.std.proofs.Common.{◌≡◌, ℕ, ◌+◌, ◌-◌, ◌*◌, ◌/◌, ◌%◌, ◌^◌, ◌<◌, Bool, T, eqb, ltb, List, [], ◌∷◌, ◌++◌, length, get_or, refl, ap, ◌∙◌, ap₂, add-one, arith, eqb→eq, ltb→lt}
 use lib.Bits.{bit_or}
 use Rattle.md5_digest.specs.declared.Registers.{Registers}
 use Rattle.md5_digest.specs.Md5.{rotated, sum32, mixed, word_number, shift_amount, sines, step, steps}

@@ -17,7 +17,7 @@ use Rattle.opening.specs.declared.file.Tags.{Tags}
 use Rattle.opening.specs.declared.refusal.Field.TheVariants.{Filter, V, R, StmF, StrF}
 use Rattle.opening.specs.declared.refusal.Refusal.{Refusal}
 use Rattle.opening.specs.declared.refusal.Refusal.TheVariants.{Missing, NotStandard, OtherV, ShortLength, LateR, LongLength, EarlyR}
-use Rattle.opening.specs.Checks.{refuse, given, need, sound, and_then, version_of, key_length, standard, tag_by, listed_tags, tags_of, admitted, revision_of, limited}
+use Rattle.opening.specs.Checks.{refuse, given, need, and_then, version_of, key_length, standard, tag_by, listed_tags, tags_of, admitted, revision_of, limited}
 use Rattle.opening.specs.Making.{filled, new_file}
 use Rattle.opening.specs.Inputs.{basis_of}
 use Rattle.opening.specs.Laws.{version_number, revision_number, Tagged, Fit, basis}

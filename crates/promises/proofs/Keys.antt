@@ -1,5 +1,5 @@
 -- The keys of files and objects are bytes.
-use Rattle.std.proofs.Common.{ℕ, zero, suc, ◌+◌, ◌-◌, ◌/◌, ◌<◌, min, Bool, true, false, ◌++◌, length, take, ℤ, Option, sym, subst, arith, lit<}
+use Rattle.std.proofs.Common.{ℕ, zero, suc, ◌+◌, ◌-◌, ◌/◌, min, Bool, true, false, ◌++◌, length, take, ℤ, Option, sym, subst, arith, lit<}
 use Rattle.byte_strings.specs.Bytes.{Bytes, Octets, zeros}
 use Rattle.cbc.proofs.Parts.{take_bytes, append_bytes, replicate_bytes}
 use Rattle.md5_digest.specs.declared.Registers.{Registers}

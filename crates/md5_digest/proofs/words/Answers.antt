@@ -1,5 +1,5 @@
 -- One word more; a block of 64 bytes does not end early.
-use Rattle.std.proofs.Common.{◌≡◌, ◌<◌, ◌≤◌, length, sym, refl, ◌∙◌, arith, length-drop, length-set, length-take, ltb-true}
+use Rattle.std.proofs.Common.{◌≤◌, length, refl, ◌∙◌, arith, length-drop, length-set, length-take, ltb-true}
 use Rattle.md5_digest.proofs.Blocks.{words_more, words_all}
 use Rattle.md5_digest.proofs.words.Goals as goal
 

@@ -1,5 +1,5 @@
 -- One entry more, and the whole table.
-use Rattle.std.proofs.Common.{◌≡◌, ℕ, ◌<◌, List, map, length, refl, ◌∙◌, arith, length-set}
+use Rattle.std.proofs.Common.{◌<◌, length, ◌∙◌, arith, length-set}
 use Rattle.std.proofs.lemmas.List.Edits.{fill_by_more}
 use Rattle.std.proofs.lemmas.List.FromFn.{fill_by_all}
 use Rattle.std.proofs.lemmas.List.{map-id}

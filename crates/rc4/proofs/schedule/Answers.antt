@@ -1,6 +1,6 @@
 -- One round more.
-use Rattle.std.proofs.Common.{◌≡◌, length, refl, ap, ◌∙◌, arith, rules}
-use Rattle.rc4.specs.Rc4.{rounds, identity}
+use Rattle.std.proofs.Common.{◌≡◌, refl, ap, ◌∙◌, arith, rules}
+use Rattle.rc4.specs.Rc4.{rounds}
 use Rattle.rc4.proofs.Tables.{rounds-step}
 use Rattle.rc4.proofs.schedule.Goals as goal
 

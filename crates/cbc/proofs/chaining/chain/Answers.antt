@@ -1,5 +1,5 @@
 -- One block more, and all of them.
-use Rattle.std.proofs.Common.{◌≡◌, ◌+◌, ◌-◌, ◌*◌, ◌/◌, ◌%◌, ◌++◌, length, drop, sym, ap, ◌∙◌, arith, rules}
+use Rattle.std.proofs.Common.{◌≡◌, ◌+◌, ◌*◌, ◌/◌, ◌%◌, ◌++◌, length, drop, sym, ap, ◌∙◌, arith, rules}
 use Rattle.cbc.specs.Pad.{padded}
 use Rattle.cbc.specs.Chaining.{chained, encrypted}
 use Rattle.cbc.proofs.RoundTrip.{encrypted-length}

@@ -1,5 +1,5 @@
 -- One digest more.
-use Rattle.std.proofs.Common.{◌≡◌, ◌-◌, length, take, sym, refl, ap, ◌∙◌, arith, rules}
+use Rattle.std.proofs.Common.{◌≡◌, ◌-◌, take, sym, refl, ap, ◌∙◌, arith, rules}
 use Rattle.md5_digest.specs.Md5.{md5}
 use Rattle.keys.specs.File.{again}
 use Rattle.keys.proofs.Turns.{again_more}

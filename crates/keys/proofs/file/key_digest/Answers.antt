@@ -1,5 +1,5 @@
 -- The digests of Algorithm 2, from its parts.
-use Rattle.std.proofs.Common.{◌≡◌, ℕ, take, ap, ◌∙◌, ap₂}
+use Rattle.std.proofs.Common.{ℕ, take, ap, ◌∙◌, ap₂}
 use Rattle.byte_strings.specs.Bytes.{Bytes}
 use Rattle.keys.specs.File.{again, file_key}
 use Rattle.keys.proofs.file.key_digest.Goals as goal

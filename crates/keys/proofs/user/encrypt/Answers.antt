@@ -1,5 +1,5 @@
 -- The buffer is as long as the input, so it is the cipher's output.
-use Rattle.std.proofs.Common.{◌≡◌, ap, ◌∙◌}
+use Rattle.std.proofs.Common.{ap, ◌∙◌}
 use Rattle.rc4.specs.Rc4.{stream}
 use Rattle.keys.proofs.Turns.{encrypted}
 use Rattle.keys.proofs.user.encrypt.Goals as goal

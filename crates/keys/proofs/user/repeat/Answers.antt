@@ -1,5 +1,5 @@
 -- One turn more.
-use Rattle.std.proofs.Common.{◌≡◌, ◌+◌, sym, ap, ◌∙◌}
+use Rattle.std.proofs.Common.{◌+◌, sym, ap, ◌∙◌}
 use Rattle.rc4.specs.Rc4.{rc4}
 use Rattle.keys.specs.Key.{key_of}
 use Rattle.keys.specs.User.{key_xor, repeated}

@@ -1,5 +1,5 @@
 -- Algorithm 4, from its parts.
-use Rattle.std.proofs.Common.{◌≡◌, ◌∙◌, ap₂}
+use Rattle.std.proofs.Common.{◌∙◌, ap₂}
 use Rattle.byte_strings.specs.Bytes.{Bytes}
 use Rattle.rc4.specs.Rc4.{rc4}
 use Rattle.keys.specs.User.{user_password2}

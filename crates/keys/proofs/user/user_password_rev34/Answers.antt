@@ -1,6 +1,6 @@
 -- Algorithm 5, from its parts.
 use Rattle.std.proofs.Common.{◌≡◌, ◌++◌, ap, ◌∙◌, rules}
-use Rattle.byte_strings.specs.Bytes.{Bytes, zeros}
+use Rattle.byte_strings.specs.Bytes.{zeros}
 use Rattle.md5_digest.specs.Md5.{md5}
 use Rattle.keys.specs.Key.{key_of}
 use Rattle.keys.specs.Password.{password_padding}

@@ -1,6 +1,6 @@
 -- The fill and the length are the padding, and complete a block.
-use Rattle.std.proofs.Common.{◌≡◌, ℕ, ◌-◌, ◌*◌, ◌%◌, ◌^◌, ◌<◌, ◌≤◌, List, ◌∷◌, ◌++◌, length, take, replicate, sym, ap, ◌∙◌, inl, inr, arith}
-use Rattle.md5_digest.specs.Md5.{low_bytes, padding}
+use Rattle.std.proofs.Common.{◌≡◌, ◌-◌, ◌*◌, ◌%◌, ◌^◌, ◌<◌, ◌≤◌, length, take, ap, ◌∙◌, inl, inr, arith}
+use Rattle.md5_digest.specs.Md5.{low_bytes}
 use Rattle.md5_digest.proofs.Padding.{low_bytes_8}
 use Rattle.md5_digest.proofs.Finish.{Fills, filler, padding_part, length_part, finished, whole-blocks}
 use Rattle.md5_digest.proofs.Md5.pad.Goals as goal

@@ -1,5 +1,5 @@
 -- A whole block in front of the rest.
-use Rattle.std.proofs.Common.{◌≡◌, ◌+◌, ◌%◌, ◌^◌, ◌++◌, take, refl, ap, ◌∙◌}
+use Rattle.std.proofs.Common.{◌+◌, ◌%◌, ◌^◌, ◌++◌, take, refl, ap, ◌∙◌}
 use Rattle.md5_digest.specs.Md5.{absorbed}
 use Rattle.md5_digest.specs.Stream.{absorbing}
 use Rattle.md5_digest.proofs.Blocks.{block-absorbed}

@@ -1,5 +1,5 @@
 -- One byte more, and the end of the loop.
-use Rattle.std.proofs.Common.{◌≡◌, ◌<◌, [], ◌++◌, length, take, drop, sym, refl, ap, ◌∙◌, ap₂, arith, take-append-drop}
+use Rattle.std.proofs.Common.{◌≡◌, ◌<◌, [], ◌++◌, length, drop, sym, ap, ◌∙◌, ap₂, arith, take-append-drop}
 use Rattle.std.proofs.lemmas.List.{drop_all, append-nil}
 use Rattle.rc4.proofs.Streams.{write_more, after_more, behind_more, length-stream}
 use Rattle.rc4.proofs.Rc4.feed.Goals as goal
