@@ -1,4 +1,4 @@
--- The lemmas of the crate; those on blocks and sums serve the chaining too.
+-- Lemmas on tables that a loop fills, on words, on the key expansion and on the rounds of the code.
 pub mod Filled
 mod CipherSteps
 mod KeySteps

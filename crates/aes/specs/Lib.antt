@@ -1,4 +1,4 @@
--- The definitions of AES, from FIPS 197.
+-- The definitions of AES, from FIPS 197; then the lemmas by which the two maps undo each other: those on blocks and sums serve the chaining too.
 pub mod BlockCipher
 pub mod Field
 pub mod Sbox

@@ -1,2 +1,2 @@
--- Lemmas on chained restorings: block by block, piece by piece, how much is out when, and their law.
+-- Lemmas on how much of a chained restoring is out when.
 pub mod ByLength

@@ -1,4 +1,4 @@
--- Chaining as a crypt method: its meaning, its states, and how much is out when.
+-- Chaining as a crypt method: its meaning, its states, and how much is out when; then the lemmas of its laws.
 pub mod Keyed
 pub mod ChainedMethod
 pub mod Last

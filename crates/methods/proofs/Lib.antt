@@ -1,2 +1,2 @@
--- Lemmas on feedings, and the laws of the copy and of RC4.
+-- Lemmas on feedings.
 pub mod Feedings

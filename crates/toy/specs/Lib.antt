@@ -1,3 +1,3 @@
--- The meaning of the toy method.
+-- The meaning of the toy method; then the lemmas of its laws.
 pub mod Framed
 pub mod Unframing
