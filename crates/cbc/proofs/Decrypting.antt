@@ -6,7 +6,6 @@ use Rattle.aes.specs.BlockCipher.{Permutation}
 use Rattle.cbc.specs.Blocks.{xor_blocks}
 use Rattle.cbc.specs.Pad.{cut_by}
 use Rattle.cbc.specs.Chaining.{unchained, complete_length, plain, removed, decrypted, restored, Written}
-use Rattle.cbc.proofs.Parts.{behind}
 use Rattle.cbc.proofs.PaddingLaws.{cut_front}
 use Rattle.cbc.proofs.Walking.{Walking, length_xor}
 
@@ -54,14 +53,10 @@ module _ (p : Permutation) (unpad : Bool) (iv y : Bytes) where
         ∙ ap (λ (u : Bytes). u ++ drop (length (decrypted p unpad iv y)) out₀) (sym decrypted_split)
 
 -- what is behind the start vector goes to the chaining
-pub restored-written : (p : Permutation) (stored v : Bytes) (r : Option ℕ) (old new : Bytes) → v ≡ take 16 stored
-    → Written (complete_length (length (take (length stored - 16) (drop 16 stored)))) (decrypted p true v (take (length stored - 16) (drop 16 stored))) r old new
-    → Written (complete_length (length stored - 16)) (restored p stored) r old new
+pub restored_written : (p : Permutation) (stored v y : Bytes) (r : Option ℕ) (old new : Bytes) → v ≡ take 16 stored → y ≡ drop 16 stored
+    → Written (complete_length (length y)) (decrypted p true v y) r old new → Written (complete_length (length stored - 16)) (restored p stored) r old new
 unfolding restored
-restored-written p stored v r old new v-is is =
-    let y : Bytes = drop 16 stored in
-    let part = behind stored in
-    let w : decrypted p true v (take (length stored - 16) y) ≡ decrypted p true (take 16 stored) y = ap₂ (λ (a b : Bytes). decrypted p true a b) v-is part in
-    let n : length (take (length stored - 16) y) ≡ length stored - 16 = ap length part ∙ length-drop 16 stored in
-    subst (λ (m : ℕ). Written (complete_length m) (decrypted p true (take 16 stored) y) r old new) n
-    (subst (λ (u : Bytes). Written (complete_length (length (take (length stored - 16) y))) u r old new) w is)
+restored_written p stored v y r old new v-is y-is is =
+    let w : decrypted p true v y ≡ decrypted p true (take 16 stored) (drop 16 stored) = ap₂ (λ (a b : Bytes). decrypted p true a b) v-is y-is in
+    subst (λ (m : ℕ). Written (complete_length m) (decrypted p true (take 16 stored) (drop 16 stored)) r old new) (ap length y-is ∙ length-drop 16 stored)
+    (subst (λ (u : Bytes). Written (complete_length (length y)) u r old new) w is)

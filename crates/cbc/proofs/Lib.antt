@@ -1,4 +1,6 @@
 -- The lemmas of the crate.
+pub mod Made
+pub mod Chunks
 pub mod Parts
 pub mod PaddingLaws
 pub mod Walking

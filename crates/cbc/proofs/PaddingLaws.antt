@@ -1,22 +1,14 @@
 -- The padding of a block by its last byte, of the last block of several, and of padded data.
-use Rattle.std.proofs.Common.{◌≡◌, ℕ, zero, suc, ◌+◌, ◌-◌, ◌%◌, ◌<◌, ◌≤◌, min, Bool, true, false, cond, ◌&&◌, ltb, leb, ◌++◌, length, get_or, take, drop, replicate, sym, refl, ap, ◌∙◌, subst, ap₂, inl, inr, arith}
+use Rattle.std.proofs.Common.{◌≡◌, ℕ, zero, suc, ◌+◌, ◌-◌, ◌*◌, ◌/◌, List, ◌<◌, ◌≤◌, Bool, true, false, cond, ◌&&◌, ltb, leb, ◌++◌, length, get_or, take, drop, replicate, sym, refl, ap, ◌∙◌, subst, ap₂, inl, inr, arith}
 use lib.Seq.{take-append-add, drop-append-add}
-use Rattle.std.proofs.lemmas.List.{append-nil, length-append, length-drop, length-replicate, take_all, take-append-le, drop-append-le, drop-replicate, get_or-append_right, get_or-replicate, at_drop_more}
-use Rattle.std.proofs.lemmas.Bool.{cases_lt, cases_Bool, eq-eqb, ne_eqb, lt-ltb, le-leb, le-ltb, ltb-true, and_parts, cond-true, cond-false}
+use Rattle.std.proofs.lemmas.List.{length-append, length-drop, length-replicate, take_all, take-append-le, drop-append-le, get_or-append_right, get_or-replicate}
+use Rattle.std.proofs.lemmas.Bool.{cases_lt, cases_Bool, eq-eqb, lt-ltb, le-leb, le-ltb, ltb-true, and_parts, cond-true, cond-false}
+use Rattle.std.specs.Simd.{first_chunks}
 use Rattle.byte_strings.specs.Bytes.{Bytes}
 use Rattle.cbc.specs.Pad.{all_are, last_byte, pad_length, padded, padded_by, padding_of, cut_by}
 use Rattle.cbc.specs.Chaining.{removed}
 use Rattle.cbc.proofs.Parts.{take_seam, drop_seam}
-
--- one byte that equals k, and one that does not
-pub all_more : (b : Bytes) (k i : ℕ) → i < length b → get_or b i 0 ≡ k → all_are k (drop (i + 1) b) ≡ all_are k (drop i b)
-unfolding all_are
-all_more b k i h e =
-    sym (at_drop_more (all_are k) b i 0 h ∙ ap (λ (t : Bool). t && all_are k (drop (i + 1) b)) (eq-eqb (get_or b i 0) k e))
-
-pub all_not : (b : Bytes) (k i : ℕ) → i < length b → (get_or b i 0 ≡ k → ⊥) → all_are k (drop i b) ≡ false
-unfolding all_are
-all_not b k i h e = at_drop_more (all_are k) b i 0 h ∙ ap (λ (t : Bool). t && all_are k (drop (i + 1) b)) (ne_eqb (get_or b i 0) k e)
+use Rattle.cbc.proofs.Chunks.{chunk_at}
 
 -- a block that ends in the byte k
 module _ (b : Bytes) (n : length b ≡ 16) (k : ℕ) (ends : k ≡ get_or b 15 0) where
@@ -102,7 +94,6 @@ cut_front unpad a y sixteen =
     ap (λ (n : ℕ). take n (a ++ y)) at ∙ take-append-add a y (16 - k)
 
 all_are-replicate : (n k : ℕ) → all_are k (replicate n k) ≡ true
-unfolding all_are
 all_are-replicate zero k = refl
 all_are-replicate (suc n) k = ap₂ ◌&&◌ (eq-eqb k k refl) (all_are-replicate n k)
 
@@ -125,25 +116,23 @@ pad_undone x =
     let told : padding_of (x ++ r) ≡ p = ap (λ (k : ℕ). cond (padded_by k (x ++ r)) k 0) last ∙ ap (λ (t : Bool). cond t p 0) test in
     ap (λ (k : ℕ). take (length (x ++ r) - k) (x ++ r)) told ∙ take_seam (length (x ++ r) - p) x r start
 
--- a block of the padded data
-pub made-block : (x a : Bytes) (at n p : ℕ) → at ≤ length x → n ≡ min (length x - at) 16 → p ≡ pad_length (length x) → a ≡ take (at + n - at) (drop at x)
-    → at % 16 ≡ 0 → a ++ drop (n - 0) (replicate 16 p) ≡ take 16 (drop at (padded x))
-made-block x a at n p within n-is p-is a_is whole =
+-- a complete block of the padded data
+pub padded_chunk : (x : Bytes) (blocks : List Bytes) (n : ℕ) (d : Bytes) → blocks ≡ first_chunks 16 (length x / 16) x → n < length x / 16
+    → get_or blocks n d ≡ take 16 (drop (n * 16) (padded x))
+padded_chunk x blocks n d are h =
     let q : ℕ = pad_length (length x) in
+    let all : drop (n * 16) (padded x) ≡ drop (n * 16) x ++ replicate q q = drop-append-le (n * 16) x (replicate q q) (omega arith) in
+    ap (λ (l : List Bytes). get_or l n d) are ∙ chunk_at (length x / 16) n x d h
+    ∙ sym (take-append-le 16 (drop (n * 16) x) (replicate q q) (omega (arith, length-drop (n * 16) x))) ∙ ap (take 16) (sym all)
+
+-- the last block of the padded data
+pub padded_last : (x rest : Bytes) → rest ≡ drop (length x / 16 * 16) x → padded rest ≡ take 16 (drop (length x / 16 * 16) (padded x))
+padded_last x rest is =
+    let q : ℕ = pad_length (length x) in
+    let at : ℕ = length x / 16 * 16 in
     let d : Bytes = drop at x in
     let ld : length d ≡ length x - at = length-drop at x in
-    let m : at + n - at ≡ n = omega arith in
-    let a2 : a ≡ take n d = a_is ∙ ap (λ (k : ℕ). take k d) m in
-    let r : drop (n - 0) (replicate 16 p) ≡ replicate (16 - n) q = drop-replicate (n - 0) 16 p ∙ ap₂ (λ (k v : ℕ). replicate k v) (omega arith) p-is in
-    let all : drop at (padded x) ≡ d ++ replicate q q = drop-append-le at x (replicate q q) within in
-    elim (cases_lt (length x - at) 16) [
-      | inl less ↦
-          let n2 : n ≡ length d = omega (arith, ld) in
-          let k : 16 - n ≡ q = omega (arith, ld) in
-          let len : length (d ++ replicate q q) ≤ 16 = omega (arith, length-append d (replicate q q), length-replicate q q, ld) in
-          ap₂ ◌++◌ (a2 ∙ take_all n d (omega arith)) (r ∙ ap (λ (i : ℕ). replicate i q) k) ∙ sym (take_all 16 (d ++ replicate q q) len) ∙ ap (take 16) (sym all)
-      | inr more ↦
-          let n2 : n ≡ 16 = omega arith in
-          let k : 16 - n ≡ 0 = omega arith in
-          ap₂ ◌++◌ (a2 ∙ ap (λ (i : ℕ). take i d) n2) (r ∙ ap (λ (i : ℕ). replicate i q) k) ∙ append-nil (take 16 d) ∙ sym (take-append-le 16 d (replicate q q) (omega (arith, ld))) ∙ ap (take 16) (sym all)
-    ]
+    let all : drop at (padded x) ≡ d ++ replicate q q = drop-append-le at x (replicate q q) (omega arith) in
+    let few : pad_length (length d) ≡ q = omega (arith, ld) in
+    let len : length (d ++ replicate q q) ≤ 16 = omega (arith, length-append d (replicate q q), length-replicate q q, ld) in
+    ap padded is ∙ ap (λ (k : ℕ). d ++ replicate k k) few ∙ sym (take_all 16 (d ++ replicate q q) len) ∙ ap (take 16) (sym all)

@@ -1,5 +1,6 @@
 -- Padding: 1 to 16 bytes, each equal to their number, fill the last block.
-use Rattle.std.specs.Prelude.{ℕ, ◌-◌, ◌%◌, Bool, true, cond, ◌&&◌, [], ◌∷◌, ◌++◌, length, take, drop, replicate, ◌==◌, nat_le, nat_lt, slice_index}
+use Rattle.std.specs.Prelude.{ℕ, ◌-◌, ◌%◌, Bool, cond, ◌&&◌, ◌++◌, length, take, drop, replicate, ◌==◌, nat_le, nat_lt, slice_index}
+use Rattle.std.specs.List.{list_all}
 use Rattle.byte_strings.specs.Bytes.{Bytes}
 
 -- how many bytes of padding n bytes get
@@ -9,9 +10,8 @@ pad_length n = 16 - n % 16
 abbrev pub padded : Bytes → Bytes
 padded x = x ++ replicate (pad_length (length x)) (pad_length (length x))
 
-unfoldable pub all_are : ℕ → Bytes → Bool
-all_are k [] = true
-all_are k (x ∷ xs) = x == k && all_are k xs
+abbrev pub all_are : ℕ → Bytes → Bool
+all_are k x = list_all (λ b. b == k) x
 
 abbrev pub last_byte : Bytes → ℕ
 last_byte x = slice_index x (length x - 1)

@@ -2,23 +2,12 @@
 ghost use Rattle.std.specs.Prelude.{◌≡◌, ◌+◌, ◌≤◌, ◌++◌, length, take, drop};
 ghost use Rattle.cbc.specs.Blocks.{xor_blocks};
 
+use std::array;
+
 pub(crate) fn xor_blocks(a: &[u8; 16], b: &[u8; 16]) -> [u8; 16]
     ensures { result ≡ xor_blocks a.now b.now }
 {
-    let mut out = [0; 16];
-    for i in 0..16 {
-        out[i] = a[i] ^ b[i];
-    }
-    out
-}
-
-pub(crate) fn block_at(x: &[u8], at: usize) -> [u8; 16]
-    requires { at + 16 ≤ length x.now }
-    ensures { result ≡ take 16 (drop at x.now) }
-{
-    let mut out = [0; 16];
-    out.copy_from_slice(&x[at..at + 16]);
-    out
+    array::from_fn(|i| a[i] ^ b[i])
 }
 
 // Writes the first n bytes of a block.

@@ -4,7 +4,7 @@ ghost use Rattle.byte_strings.specs.Bytes.{Writes};
 ghost use Rattle.cbc.specs.Blocks.{xor_blocks};
 ghost use Rattle.cbc.specs.Chaining.{padded_length, encrypted, complete_length, decrypted, removed, protected, stored_length, restored, Written, RoundTrip};
 
-use crate::blocks::{block_at, put_block, put_front, xor_blocks};
+use crate::blocks::{put_block, put_front, xor_blocks};
 use crate::pad::{padded_block, padding};
 use aes::BlockCipher;
 
@@ -28,12 +28,15 @@ fn chain<C: BlockCipher>(cipher: &C, data: &[u8], iv: &[u8; 16], out: &mut [u8])
     ensures long { length (encrypted (C.permutation cipher.now) iv.now «data».now) ≡ padded_length (length «data».now) }
     ensures writes { Writes (encrypted (C.permutation cipher.now) iv.now «data».now) out.old out.new }
 {
+    let (blocks, rest) = data.as_chunks::<16>();
     let mut before = *iv;
-    for n in 0..data.len() / 16 + 1 {
-        let block = padded_block(data, n * 16);
-        before = protect_block(cipher, &before, &block);
+    // Stays a write by place: what is written through `as_chunks_mut` or `iter_mut` is not known to a proof afterwards.
+    for (n, block) in blocks.iter().enumerate() {
+        before = protect_block(cipher, &before, block);
         put_block(out, n * 16, &before);
     }
+    let last = protect_block(cipher, &before, &padded_block(rest));
+    put_block(out, blocks.len() * 16, &last);
 }
 
 // How many bytes of the last block go.
@@ -55,21 +58,20 @@ fn unchain<C: BlockCipher>(
     ensures count { result ≡ length (decrypted (C.permutation cipher.now) unpad iv.now «data».now) }
     ensures writes { Writes (decrypted (C.permutation cipher.now) unpad iv.now «data».now) out.old out.new }
 {
-    let blocks = data.len() / 16;
-    if blocks == 0 {
+    let (blocks, _) = data.as_chunks::<16>();
+    let Some((last, front)) = blocks.split_last() else {
         return 0;
-    }
+    };
     let mut before = *iv;
-    for n in 0..blocks - 1 {
-        let block = block_at(data, n * 16);
-        let plain = restore_block(cipher, &before, &block);
+    for (n, block) in front.iter().enumerate() {
+        let plain = restore_block(cipher, &before, block);
         put_block(out, n * 16, &plain);
-        before = block;
+        before = *block;
     }
-    let at = (blocks - 1) * 16;
-    let last = restore_block(cipher, &before, &block_at(data, at));
-    let kept = 16 - removed_from(&last, unpad);
-    put_front(out, at, &last, kept);
+    let plain = restore_block(cipher, &before, last);
+    let kept = 16 - removed_from(&plain, unpad);
+    let at = front.len() * 16;
+    put_front(out, at, &plain, kept);
     at + kept
 }
 
@@ -81,14 +83,6 @@ fn store<C: BlockCipher>(cipher: &C, vector: &[u8; 16], data: &[u8], out: &mut [
 {
     put_block(out, 0, vector);
     chain(cipher, data, vector, &mut out[16..]);
-}
-
-// Restores stored bytes that have a start vector: everything behind it goes to the chaining.
-fn restore_behind<C: BlockCipher>(cipher: &C, stored: &[u8], out: &mut [u8]) -> Option<usize>
-    requires { 16 ≤ length stored.now }
-    ensures { Written (complete_length (length stored.now - 16)) (restored (C.permutation cipher.now) stored.now) result out.old out.new }
-{
-    decrypt_cbc(cipher, &stored[16..], &block_at(stored, 0), true, out)
 }
 
 // Writes the data with its padding, chained behind the start vector `iv`, which is not written.
@@ -109,6 +103,7 @@ pub fn encrypt_cbc<C: BlockCipher>(
 }
 
 // Writes the complete blocks of `data`, unchained behind the start vector `iv`, and with `unpad` without their padding.
+// Stays a flag: it is the ported function's own parameter, and an enum of yes and no would say no more.
 pub fn decrypt_cbc<C: BlockCipher>(
     cipher: &C,
     data: &[u8],
@@ -150,12 +145,11 @@ pub fn protect<C: BlockCipher>(
 }
 
 // Writes what was protected: the complete blocks behind the start vector, unchained and without their padding. None without a start vector.
+#[tactic(auto, using(crate::proofs::Decrypting::restored_written))]
 pub fn restore<C: BlockCipher>(cipher: &C, stored: &[u8], out: &mut [u8]) -> Option<usize>
     ensures short { length stored.now < 16 → (result ≡ None) × (out.new ≡ out.old) }
     ensures whole { 16 ≤ length stored.now → Written (complete_length (length stored.now - 16)) (restored (C.permutation cipher.now) stored.now) result out.old out.new }
 {
-    if stored.len() < 16 {
-        return None;
-    }
-    restore_behind(cipher, stored, out)
+    let (vector, behind) = stored.split_first_chunk::<16>()?;
+    decrypt_cbc(cipher, behind, vector, true, out)
 }

@@ -1,15 +1,10 @@
--- One byte more, and all of them.
-use Rattle.std.proofs.Common.{refl, arith}
+-- The sum of the bytes at each place.
+use lib.Bits.{bit_xor}
+use Rattle.std.proofs.Common.{rules, get_or}
 use Rattle.cbc.specs.Blocks.{xor_blocks}
-use Rattle.aes.proofs.Filled.{filled_none, filled_more, filled_all}
+use Rattle.cbc.proofs.Made.{made}
 use Rattle.cbc.proofs.blocks.xor_blocks.Goals as goal
-
-pub loop-i-init : goal.loop-i-init
-loop-i-init c = filled_none _ _ refl
-
-pub loop-i-preserved : goal.loop-i-preserved
-loop-i-preserved c = filled_more _ c.loop-i.out c.loop-i.i _ (omega arith) refl c.loop-i.invariant
 
 pub returns : goal.returns
 unfolding xor_blocks
-returns c = filled_all _ c.loop-i.out c.loop-i.i (omega arith) c.loop-i.invariant
+returns c = made _ (λ i. bit_xor (get_or c.args.a.now i 0) (get_or c.args.b.now i 0)) _ (λ i y q called. search rules) 16 _ c.from_fn.ensures.items 0
