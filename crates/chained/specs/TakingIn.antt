@@ -30,11 +30,11 @@ pub put_nothing : (o : Option Bytes) (at : ℕ) (out : Bytes) → o ≡ None →
 put_nothing None at out e = (omega arith, sym (take-append-drop at out) ∙ ap (λ (k : ℕ). take at out ++ drop k out) (omega arith))
 put_nothing (Some b) at out e = let z : ◌≡◌ {A = ℕ} 0 1 = cc in absurd (omega arith)
 
-pub put_block : (o : Option Bytes) (b : Bytes) (at : ℕ) (out out' : Bytes) → o ≡ Some b → length b ≡ 16 → out' ≡ take at out ++ (take 16 b ++ drop (at + 16) out)
+pub put_block : (o : Option Bytes) (b : Bytes) (at : ℕ) (out out' : Bytes) → o ≡ Some b → length b ≡ 16 → out' ≡ take at out ++ (b ++ drop (at + 16) out)
     → (at + 16 ≡ at + length (listed o)) × (out' ≡ take at out ++ (listed o ++ drop (at + length (listed o)) out))
 put_block o b at out out' o_is sixteen is =
     let long : length (listed o) ≡ 16 = ap (λ (u : Option Bytes). length (listed u)) o_is ∙ sixteen in
-    let same : take 16 b ≡ listed o = take_all 16 b (omega arith) ∙ ap listed (sym o_is) in
+    let same : b ≡ listed o = ap listed (sym o_is) in
     (ap (λ (n : ℕ). at + n) (sym long), is ∙ ap₂ (λ (u : Bytes) (n : ℕ). take at out ++ (u ++ drop (at + n) out)) same (sym long))
 
 pub part_few : (filled : ℕ) (part : Bytes) → filled < 16 → length (take filled part) < 16
@@ -153,3 +153,12 @@ module _ (g : Permutation) (q : Residual) (piece out₀ : Bytes) (at count : ℕ
         count = n;
         behind = inv.rest;
       }
+
+-- what is left of the piece, n bytes on
+pub left-further : (piece left : Bytes) (n : ℕ) → left ≡ drop (length piece - length left) piece → n ≤ length left → length left ≤ length piece
+    → let rest = take (length left - n) (drop n left) in (rest ≡ drop (length piece - length rest) piece) × (length piece - length left + n ≡ length piece - length rest)
+left-further piece left n is few within =
+    let all : take (length left - n) (drop n left) ≡ drop n left = take_all (length left - n) (drop n left) (omega (arith, length-drop n left)) in
+    let long : length (take (length left - n) (drop n left)) ≡ length left - n = ap length all ∙ length-drop n left in
+    let at : length piece - length left + n ≡ length piece - length (take (length left - n) (drop n left)) = omega (arith, long) in
+    (all ∙ ap (drop n) is ∙ drop-drop n (length piece - length left) piece ∙ ap (λ (k : ℕ). drop k piece) at, at)

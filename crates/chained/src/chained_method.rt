@@ -39,10 +39,7 @@ impl<C: KeyedCipher> Chained<C> {
 fn cipher_under<C: KeyedCipher>(key: &[u8]) -> Result<C, MethodRefusal>
     ensures { MatchResult result (λ c. ((length key.now == C.KeyedCipher.family.size) ≡ true) × (C.BlockCipher.permutation c ≡ C.KeyedCipher.family.under key.now)) (λ e. ((length key.now == C.KeyedCipher.family.size) ≡ false) × (e ≡ KeyLength)) }
 {
-    match C::with_key(key) {
-        Some(cipher) => Ok(cipher),
-        None => Err(MethodRefusal::KeyLength),
-    }
+    C::with_key(key).ok_or(MethodRefusal::KeyLength)
 }
 
 // Stores the start vector, and behind it the data, padded and chained.
@@ -56,10 +53,7 @@ fn protect_under<C: BlockCipher>(
     ensures count { result ≡ length (protected (C.BlockCipher.permutation cipher.now) vector.now «data».now) }
     ensures writes { Writes (protected (C.BlockCipher.permutation cipher.now) vector.now «data».now) out.old out.new }
 {
-    let Some(n) = protect(cipher, vector, data, out) else {
-        unreachable()
-    };
-    n
+    protect(cipher, vector, data, out).unwrap()
 }
 
 // Restores everything behind the start vector, the first 16 bytes.
@@ -71,10 +65,7 @@ fn restore_under<C: BlockCipher>(
     requires { space (unchaining (C.BlockCipher.permutation cipher.now)) (length bytes.now) ≤ length out.old }
     ensures { Gives (given (recovered (C.BlockCipher.permutation cipher.now) bytes.now)) out.old result out.new }
 {
-    match restore(cipher, bytes, out) {
-        Some(n) => Ok(n),
-        None => Err(MethodRefusal::TooShort),
-    }
+    restore(cipher, bytes, out).ok_or(MethodRefusal::TooShort)
 }
 
 impl<C: KeyedCipher> CryptMethod for Chained<C> {

@@ -7,7 +7,8 @@ use crate::last::Last;
 #[derive(Drop)]
 pub struct Progress {
     last: Last,
-    // the bytes of the block that is coming are the first `filled` of `part`
+    // The bytes of the block that is coming are the first `filled` of `part`.
+    // Stays an array and a length: there is no heap for a Vec.
     part: [u8; 16],
     filled: usize,
     ghost wide: { width last ≡ 16 },

@@ -22,10 +22,7 @@ pub struct Rc4State {
 fn keyed_cipher(key: &[u8]) -> Result<Rc4, MethodRefusal>
     ensures { MatchResult result (λ c. (nat_lt 0 (length key.now) ≡ true) × (c ≡ keyed key.now)) (λ e. (nat_lt 0 (length key.now) ≡ false) × (e ≡ KeyLength)) }
 {
-    match Rc4::new(key) {
-        Some(cipher) => Ok(cipher),
-        None => Err(MethodRefusal::KeyLength),
-    }
+    Rc4::new(key).ok_or(MethodRefusal::KeyLength)
 }
 
 // Sends the bytes through the cipher to the front of `out`.
@@ -35,10 +32,7 @@ fn stream_into(cipher: &mut Rc4, bytes: &[u8], out: &mut [u8]) -> usize
     ensures writes { Writes (stream cipher.old bytes.now) out.old out.new }
     ensures fed { Fed (streaming cipher.old) bytes.now out.old (streaming cipher.new) result out.new }
 {
-    let Some(n) = cipher.decrypt(bytes, out) else {
-        unreachable()
-    };
-    n
+    cipher.decrypt(bytes, out).unwrap()
 }
 
 impl Running for Rc4State {

@@ -6,6 +6,7 @@ use borrow.Rule.Slice.PartMut.{put_mid, post_of}
 use Rattle.std.proofs.Math.Seq.{drop-append-add}
 use Rattle.std.proofs.lemmas.List.{drop-append-le, drop_all, drop_at, append-nil, nil_from_length, take_all, take_at, take_more, take_rest, length-take-le, set-append_right, drop-drop}
 use Rattle.std.proofs.lemmas.Bool.{cases_lt, lt-ltb, le-ltb, eq-eqb, ne_eqb}
+use Rattle.std.specs.List.{IsLastAndRest}
 use Rattle.byte_strings.specs.Bytes.{Bytes, Writes}
 use Rattle.methods.specs.Refusal.{given, Gives}
 use Rattle.methods.specs.Running.{Feeds, Fed, Fits, after}
@@ -90,23 +91,17 @@ framed_comes_back v d e =
     ∙ ap Some (ap strip (drop_at v (d ++ 128 ∷ []) 16 e) ∙ strip_append d 128 [] ∙ append-nil d)
 
 -- the last byte apart
-pub last_apart : (x : Bytes) (n : ℕ) → n + 1 ≡ length x → x ≡ take n x ++ slice_index x n ∷ []
-last_apart x n e = sym (take_all (n + 1) x (omega arith)) ∙ take_more x n 0 (omega arith)
-
 strip_one : (b : ℕ) → b ≡ 128 → strip (b ∷ []) ≡ []
 strip_one b e = ap (λ t. cond t [] (b ∷ [])) (eq-eqb b 128 e)
 
 keep_one : (b : ℕ) → (b ≢ 128) → strip (b ∷ []) ≡ b ∷ []
 keep_one b e = ap (λ t. cond t [] (b ∷ [])) (ne_eqb b 128 e)
 
-pub strip-marked : (x : Bytes) (n : ℕ) → n + 1 ≡ length x → slice_index x n ≡ 128 → take n x ≡ strip x
-strip-marked x n e last = sym (ap strip (last_apart x n e) ∙ strip_append (take n x) (slice_index x n) [] ∙ ap (λ v. take n x ++ v) (strip_one (slice_index x n) last) ∙ append-nil (take n x))
+pub strip_marked : (x rest : Bytes) (b : ℕ) → IsLastAndRest x b rest → b ≡ 128 → rest ≡ strip x
+strip_marked x rest b apart is = sym (ap strip apart.0 ∙ strip_append rest b [] ∙ ap (λ v. rest ++ v) (strip_one b is) ∙ append-nil rest)
 
-pub strip_unmarked : (x : Bytes) (n : ℕ) → n + 1 ≡ length x → (slice_index x n ≢ 128) → x ≡ strip x
-strip_unmarked x n e last = sym (ap strip (last_apart x n e) ∙ strip_append (take n x) (slice_index x n) [] ∙ ap (λ v. take n x ++ v) (keep_one (slice_index x n) last) ∙ sym (last_apart x n e))
-
-pub strip_none : (x : Bytes) → length x ≤ 0 → x ≡ strip x
-strip_none x e = let none = nil_from_length x (omega arith) in none ∙ sym (ap strip none)
+pub strip_unmarked : (x rest : Bytes) (b : ℕ) → IsLastAndRest x b rest → (b ≢ 128) → x ≡ strip x
+strip_unmarked x rest b apart is = sym (ap strip apart.0 ∙ strip_append rest b [] ∙ ap (λ v. rest ++ v) (keep_one b is) ∙ sym apart.0)
 
 -- closing, once the header is complete
 pub closes : (m : ℕ) (h w old new : Bytes) → m ≤ 0 → strip h ≡ w → Writes w old new → Gives (given ((unframing m h).ahead [])) old (Ok (length w)) new
@@ -131,10 +126,6 @@ closes_held m b o old none is other room =
 pub whole-given : (x : Bytes) → 16 ≤ length x → (unframing 16 []).ahead x ≡ Some (strip (drop 16 x))
 whole-given x e = ap (λ b. cond b None (Some (strip (drop 16 x)))) (le-ltb _ _ e)
 
--- `&x[0..n]` as the checker reads it
-pub front_cut : (x : Bytes) (n : ℕ) → take (n - 0) x ≡ take n x
-front_cut x n = ap (λ k. take k x) (sub-zero n)
-
 listed_short : (o : Option ℕ) → length (listed o) ≤ 1
 listed_short None = omega arith
 listed_short (Some b) = le_refl 1
@@ -142,10 +133,6 @@ listed_short (Some b) = le_refl 1
 -- a piece without the part of it that belongs to the header
 abbrev body : ℕ → Bytes → Bytes
 body skip p = take (length p - skip) (drop skip p)
-
--- the part without its last byte, which is held back
-abbrev front : ℕ → Bytes → Bytes
-front skip p = take (length (body skip p) - 1 - 0) (body skip p)
 
 module _ (m skip : ℕ) (p : Bytes) (most : skip ≡ min m (length p)) where
   body_is : body skip p ≡ drop m p
@@ -172,24 +159,15 @@ module _ (m skip : ℕ) (p : Bytes) (most : skip ≡ min m (length p)) where
       (fed (unframing m (listed o)) (unframing (m - length p) (listed o)) p [] old old 0 (unframing_feeds m (listed o) p [] (listed o) all (omega (arith, long, short, none))) refl refl)
 
   -- a piece that does not: its last byte is held back
-  module _ (o : Option ℕ) (old new : Bytes) (count : ℕ) (some : length (body skip p) ≡ 0 → ⊥) (counts : count ≡ length (listed o) + length (front skip p)) (writes : Writes (listed o ++ front skip p) old new) where
-    abbrev last : ℕ
-    last = slice_index (body skip p) (length (body skip p) - 1)
-
-    parts : body skip p ≡ front skip p ++ last ∷ []
-    parts = last_apart (body skip p) (length (body skip p) - 1) (omega (arith, some)) ∙ ap (λ v. v ++ last ∷ []) (sym (front_cut (body skip p) (length (body skip p) - 1)))
-
-    front_length : length (front skip p) + 1 ≡ length p - m
-    front_length = sym (length-append (front skip p) (last ∷ [])) ∙ sym (ap length parts) ∙ body-length
-
-    pub fed_some : Fed (unframing m (listed o)) p old (unframing (m - skip) (slice_index (body skip p) (length (body skip p) - 1) ∷ [])) count new
+  module _ (o : Option ℕ) (front : Bytes) (last : ℕ) (old new : Bytes) (count : ℕ) (apart : IsLastAndRest (body skip p) last front) (counts : count ≡ length (listed o) + length front) (writes : Writes (listed o ++ front) old new) where
+    pub fed_some : Fed (unframing m (listed o)) p old (unframing (m - skip) (last ∷ [])) count new
     fed_some =
-        let long = front_length in
-        let w : Bytes = listed o ++ front skip p in
-        let all : listed o ++ drop m p ≡ (listed o ++ front skip p) ++ last ∷ [] = ap (λ v. listed o ++ v) (sym body_is ∙ parts) ∙ sym (append_assoc (listed o) (front skip p) (last ∷ [])) in
+        let long = body-length in
+        let w : Bytes = listed o ++ front in
+        let all : listed o ++ drop m p ≡ (listed o ++ front) ++ last ∷ [] = ap (λ v. listed o ++ v) (sym body_is ∙ apart.0) ∙ sym (append_assoc (listed o) front (last ∷ [])) in
         subst (λ k. Fed (unframing m (listed o)) p old (unframing k (last ∷ [])) count new) (sym missing_is)
-        (fed (unframing m (listed o)) (unframing (m - length p) (last ∷ [])) p w old new count (unframing_feeds m (listed o) p w (last ∷ []) all (omega (arith, long)))
-        (counts ∙ sym (length-append (listed o) (front skip p))) writes)
+        (fed (unframing m (listed o)) (unframing (m - length p) (last ∷ [])) p w old new count (unframing_feeds m (listed o) p w (last ∷ []) all (omega (arith, long, apart.1)))
+        (counts ∙ sym (length-append (listed o) front)) writes)
 
 -- the last byte behind the header and the data
 marks : (v d r : Bytes) (n : ℕ) → length v ≡ 16 → n ≡ length d + 16 → 1 ≤ length r → slice_set (v ++ (d ++ r)) n 128 ≡ stored_form v d ++ drop 1 r
@@ -210,16 +188,14 @@ protects v d a b old n k sixteen n-is k-is room a_is b-is =
     ap (λ u. set u n 128) all ∙ marks v d (drop n old) n sixteen n-is left ∙ ap (λ u. stored_form v d ++ u) end
 
 -- what whole restoring writes
-pub restores : (x a old : Bytes) (n : ℕ) → 16 ≤ length x → n ≤ length (take (length x - 16) (drop 16 x)) → take n (take (length x - 16) (drop 16 x)) ≡ strip (take (length x - 16) (drop 16 x)) → a ≡ take (n - 0) (take (length x - 16) (drop 16 x)) → Gives (given ((unframing 16 []).ahead x)) old (Ok n) (a ++ post_of 0 (n - 0) old)
-restores x a old n long within is a_is =
-    let rest = take_rest x 16 in
-    let a_strip : a ≡ strip (drop 16 x) = a_is ∙ front_cut _ n ∙ is ∙ ap strip rest in
-    let n-is : n ≡ length (strip (drop 16 x)) = sym (length-take-le n (take (length x - 16) (drop 16 x)) within) ∙ ap length (is ∙ ap strip rest) in
-    subst (λ o. Gives (given o) old (Ok n) (a ++ post_of 0 (n - 0) old)) (sym (whole-given x long))
-    (ap Ok n-is, ap (λ v. v ++ post_of 0 (n - 0) old) a_strip ∙ ap (λ k. strip (drop 16 x) ++ drop k old) (sub-zero n ∙ n-is))
+pub restores : (x rest s a old : Bytes) → 16 ≤ length x → rest ≡ drop 16 x → s ≡ strip rest → a ≡ s → Gives (given ((unframing 16 []).ahead x)) old (Ok (length s)) (a ++ post_of 0 (length s - 0) old)
+restores x rest s a old long rest_is is a_is =
+    let whole : s ≡ strip (drop 16 x) = is ∙ ap strip rest_is in
+    subst (λ o. Gives (given o) old (Ok (length s)) (a ++ post_of 0 (length s - 0) old)) (sym (whole-given x long))
+    (ap (λ v. Ok (length v)) whole, ap (λ v. v ++ post_of 0 (length s - 0) old) (a_is ∙ whole) ∙ ap (λ k. strip (drop 16 x) ++ drop k old) (sub-zero (length s) ∙ ap length whole))
 
-pub restores_room : (x : Bytes) (n m : ℕ) → n ≤ length (take (length x - 16) (drop 16 x)) → length x - 16 ≤ m → n ≤ m
-restores_room x n m within room = omega (arith, within, room, ap length (take_rest x 16), length-drop 16 x)
+pub restores_room : (x rest s : Bytes) (m : ℕ) → rest ≡ drop 16 x → s ≡ strip rest → length x - 16 ≤ m → length s ≤ m
+restores_room x rest s m rest_is is room = omega (arith, ap length (is ∙ ap strip rest_is), strip-length (drop 16 x), room, length-drop 16 x)
 
 pub framed_lawful : Lawful framed_scheme
 framed_lawful = record { sized = λ k v d s. framed_length v d s.sixteen; restores = λ k v d s. framed_comes_back v d s.sixteen }

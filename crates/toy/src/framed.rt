@@ -1,8 +1,9 @@
 // The start vector as a header, the data, and the end mark 0x80.
-ghost use Rattle.std.specs.Prelude.{◌≡◌, ◌+◌, ◌-◌, ◌≤◌, [], ◌++◌, length, take};
+ghost use Rattle.std.specs.Prelude.{◌≡◌, ◌+◌, ◌-◌, ◌≤◌, true, false, [], ◌++◌, length, MatchResult, nat_lt};
 ghost use Rattle.byte_strings.specs.Bytes.{Writes};
 ghost use Rattle.methods.specs.Refusal.{given, Gives};
 ghost use Rattle.methods.specs.Running.{Fed};
+ghost use Rattle.methods.specs.declared.refusal.MethodRefusal.TheVariants.{KeyLength};
 ghost use Rattle.toy.specs.Framed.{strip, stored_form, unframing, listed, meaning, framed_scheme};
 ghost use Rattle.toy.specs.Unframing.{unframing_fits, framed_lawful};
 
@@ -49,14 +50,11 @@ impl FramedState {
     {
         let skip = self.missing.min(piece.len());
         self.missing -= skip;
-        let body = &piece[skip..piece.len()];
-        if body.len() == 0 {
+        let Some((last, front)) = piece[skip..].split_last() else {
             return 0;
-        }
-        let n = body.len() - 1;
-        let last = body[n];
-        let count = write_both(self.held, &body[0..n], out);
-        self.held = Some(last);
+        };
+        let count = write_both(self.held, front, out);
+        self.held = Some(*last);
         count
     }
 
@@ -68,14 +66,13 @@ impl FramedState {
         if self.missing > 0 {
             return Err(MethodRefusal::TooShort);
         }
-        let Some(b) = self.held else {
-            return Ok(0);
-        };
-        if b == MARK {
-            return Ok(0);
+        match self.held {
+            Some(b) if b != MARK => {
+                out[0] = b;
+                Ok(1)
+            }
+            _ => Ok(0),
         }
-        out[0] = b;
-        Ok(1)
     }
 }
 
@@ -115,15 +112,13 @@ impl Running for FramedState {
     }
 }
 
-// The length of `body` without an end mark.
-fn stripped_len(body: &[u8]) -> usize
-    ensures { (result ≤ length body.now) × (take result body.now ≡ strip body.now) }
+// The bytes without an end mark.
+fn stripped(body: &[u8]) -> &[u8]
+    ensures { result.now ≡ strip body.now }
 {
-    let n = body.len();
-    if n > 0 && body[n - 1] == MARK {
-        n - 1
-    } else {
-        n
+    match body.split_last() {
+        Some((last, front)) if *last == MARK => front,
+        _ => body,
     }
 }
 
@@ -145,13 +140,23 @@ fn unframe(bytes: &[u8], out: &mut [u8]) -> Result<usize, MethodRefusal>
     requires { length bytes.now - 16 ≤ length out.old }
     ensures { Gives (given ((unframing 16 []).ahead bytes.now)) out.old result out.new }
 {
-    if bytes.len() < 16 {
+    let Some((_, body)) = bytes.split_first_chunk::<16>() else {
         return Err(MethodRefusal::TooShort);
-    }
-    let body = &bytes[16..bytes.len()];
-    let n = stripped_len(body);
-    out[0..n].copy_from_slice(&body[0..n]);
+    };
+    let body = stripped(body);
+    let n = body.len();
+    out[0..n].copy_from_slice(body);
     Ok(n)
+}
+
+// A key has a byte or more.
+fn check_key(key: &[u8]) -> Result<(), MethodRefusal>
+    ensures { MatchResult result (λ _. nat_lt 0 (length key.now) ≡ true) (λ e. (nat_lt 0 (length key.now) ≡ false) × (e ≡ KeyLength)) }
+{
+    if key.is_empty() {
+        return Err(MethodRefusal::KeyLength);
+    }
+    Ok(())
 }
 
 #[derive(Clone, Copy)]
@@ -183,23 +188,17 @@ impl CryptMethod for Framed {
         data: &[u8],
         out: &mut [u8],
     ) -> Result<usize, MethodRefusal> {
-        if key.is_empty() {
-            return Err(MethodRefusal::KeyLength);
-        }
+        check_key(key)?;
         Ok(frame(vector, data, out))
     }
 
     fn restore(&self, key: &[u8], bytes: &[u8], out: &mut [u8]) -> Result<usize, MethodRefusal> {
-        if key.is_empty() {
-            return Err(MethodRefusal::KeyLength);
-        }
+        check_key(key)?;
         unframe(bytes, out)
     }
 
     fn start(&self, key: &[u8]) -> Result<FramedState, MethodRefusal> {
-        if key.is_empty() {
-            return Err(MethodRefusal::KeyLength);
-        }
+        check_key(key)?;
         Ok(FramedState {
             missing: 16,
             held: None,

@@ -14,6 +14,7 @@ use cbc::{padding, restore_block};
 use methods::refusal::MethodRefusal;
 
 // How many blocks are complete; two stands for two or more.
+// Stays a number: the blocks that are to come are added to it.
 fn complete_blocks(last: Last) -> usize
     ensures { result ≡ complete last }
 {
@@ -59,14 +60,6 @@ fn fill(part: &mut [u8; 16], filled: usize, piece: &[u8]) -> usize
     n
 }
 
-// Writes the first `n` bytes of a block at `at`.
-fn put_front(out: &mut [u8], at: usize, block: &[u8; 16], n: usize)
-    requires { (n ≤ 16) × (at + n ≤ length out.old) }
-    ensures { out.new ≡ take at out.old ++ (take n block.now ++ drop (at + n) out.old) }
-{
-    out[at..at + n].copy_from_slice(&block[0..n]);
-}
-
 // Writes what was set free at `at`, and answers where it ends.
 fn put_free(out: &mut [u8], at: usize, free: Option<[u8; 16]>) -> usize
     requires { at + length (listed free) ≤ length out.old }
@@ -75,7 +68,7 @@ fn put_free(out: &mut [u8], at: usize, free: Option<[u8; 16]>) -> usize
 {
     match free {
         Some(block) => {
-            put_front(out, at, &block, 16);
+            out[at..at + 16].copy_from_slice(&block);
             at + 16
         }
         None => at,
@@ -101,7 +94,7 @@ fn put_last(last: Last, out: &mut [u8]) -> Result<usize, MethodRefusal>
         Last::Vector(_) => Ok(0),
         Last::Restored(_, plain) => {
             let n = unpadded_len(&plain);
-            put_front(out, 0, &plain, n);
+            out[0..n].copy_from_slice(&plain[0..n]);
             Ok(n)
         }
     }
@@ -147,11 +140,11 @@ impl Progress {
         requires { (underway (C.BlockCipher.permutation cipher.now) self.old).hands (length piece.now) ≤ length out.old }
         ensures { Fed (underway (C.BlockCipher.permutation cipher.now) self.old) piece.now out.old (underway (C.BlockCipher.permutation cipher.now) self.new) result out.new }
     {
-        let mut at = 0;
+        let mut left = piece;
         let mut count = 0;
-        while at < piece.len() {
-            let (n, free) = self.accept(cipher, &piece[at..piece.len()]);
-            at += n;
+        while !left.is_empty() {
+            let (n, free) = self.accept(cipher, left);
+            left = &left[n..];
             count = put_free(out, count, free);
         }
         count
