@@ -27,6 +27,14 @@ pub struct Settings {
     pub id: [u8; 16],
 }
 
+// What a round trip protects.
+#[derive(Clone, Copy)]
+pub struct Item<'a> {
+    pub object: Object,
+    pub vector: &'a [u8; 16],
+    pub data: &'a [u8],
+}
+
 // The file as it was set up, and as it was opened.
 #[derive(Clone, Copy)]
 pub struct Pair {
@@ -67,10 +75,7 @@ fn set_up_and_open<S: Series, M: CryptMethod>(
         },
     };
     let mut u = [0u8; 32];
-    let made = match set_up(series, &fields, password, work, &mut u) {
-        Ok(made) => made,
-        Err(refusal) => return Err(refusal),
-    };
+    let made = set_up(series, &fields, password, work, &mut u)?;
     fields.u = Some(&u[0..32]);
     promises::<S, S, M>();
     match open(series, &fields, password, work) {
@@ -84,6 +89,7 @@ fn set_up_and_open<S: Series, M: CryptMethod>(
 
 // Protects bytes in the file that was set up, and restores them from the one that was opened. Once they are protected,
 // no refusal but for space is left.
+// Stays with the item's parts apart: of a slice inside a struct a proof does not learn that its elements are bytes.
 fn protect_and_restore<M: CryptMethod>(
     pair: Pair,
     method: &M,
@@ -113,14 +119,20 @@ pub fn round_trip<S: Series, M: CryptMethod>(
     password: &[u8],
     work: &mut [u8],
     method: &M,
-    object: Object,
-    vector: &[u8; 16],
-    data: &[u8],
+    item: Item,
     stored: &mut [u8],
     out: &mut [u8],
 ) -> Result<Output, Refusal>
-    ensures { Returned «data».now out.old result out.new }
+    ensures { Returned item.entry.«data».now out.old result out.new }
 {
     let pair = set_up_and_open::<S, M>(series, settings, password, work)?;
-    protect_and_restore(pair, method, object, vector, data, stored, out)
+    protect_and_restore(
+        pair,
+        method,
+        item.object,
+        item.vector,
+        item.data,
+        stored,
+        out,
+    )
 }
