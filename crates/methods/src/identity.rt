@@ -26,6 +26,7 @@ fn copy_front(bytes: &[u8], out: &mut [u8]) -> usize
     n
 }
 
+// Stays beside the one of RC4: what the two share is one-line answers, and a type over both would name each difference.
 impl Running for IdentityState {
     ghost means = { λ _. copying };
 

@@ -33,6 +33,7 @@ pub type DecryptorState = OneOf<
     ChainedState<Aes256>,
 >;
 
+// Stays beside the one for AES-256: `Chained::new` is the generic function of both.
 fn aes128() -> Chained<Aes128>
     ensures { result.kind ≡ Salted }
 {
@@ -45,6 +46,7 @@ fn aes256() -> Chained<Aes256>
     Chained::<Aes256>::new(KeyKind::File)
 }
 
+// Stays a match for each answer: the four methods start states of different types, so no dyn can stand for them.
 impl CryptMethod for DecryptorTag {
     type State = DecryptorState;
 
