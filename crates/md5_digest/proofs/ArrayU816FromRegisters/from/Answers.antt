@@ -10,7 +10,8 @@ pub returns : goal.returns
 unfolding digest
 returns c =
     let h = c.args.h in
-    let words = mapped _ (low_bytes 4) _ (h.a ∷ (h.b ∷ (h.c ∷ (h.d ∷ [])))) _ 4 refl (λ p q x y k.
+    let words =
+    mapped _ (low_bytes 4) _ (λ x y q k.
     let bytes : y ≡ x % 256 ∷ x / 256 % 256 ∷ x / 65536 % 256 ∷ x / 16777216 % 256 ∷ [] = search rules in
-    bytes ∙ low_bytes_4 x) c.map-words.ensures.items in
+    (bytes ∙ low_bytes_4 x, search rules)) (h.a ∷ (h.b ∷ (h.c ∷ (h.d ∷ [])))) _ 4 refl c.map-words.ensures.items in
     c.copy_from_slice.ensures.after ∙ c.as_flattened.ensures.value ∙ ap (flat_map (λ xs. xs)) words
