@@ -5,14 +5,17 @@ use lib.Seq.{take-append-add}
 use borrow.Rule.Slice.PartMut.{put_mid, post_of}
 use Rattle.std.proofs.lemmas.List.{length-take, length-append, take_at, drop_at, drop-drop, append_assoc, append-nil, drop-replicate, take-append-le, take_all}
 use Rattle.std.proofs.lemmas.Bool.{cases_lt}
+use Rattle.std.specs.Str.{bytes_eq}
+use Rattle.std.proofs.lemmas.Bool.Decides.{same_from_decides}
+use Rattle.std.proofs.lemmas.Slice.Eq.{bytes_eq-Decides}
 use Rattle.keys.specs.Password.{password_padding, padded}
 
--- the front of n bytes, n being all there are up to a bound
-pub take_min : (xs : List ℕ) (n k : ℕ) → n ≡ min (length xs) k → take (n - 0) xs ≡ take k xs
-take_min xs n k m =
-    ⊎_elim (λ (h : length xs < k). take_all (n - 0) xs (omega arith) ∙ sym (take_all k xs (omega arith)))
-    (λ (h : k ≤ length xs). let e : n - 0 ≡ k = omega arith in ap (λ i. take i xs) e)
-    (cases_lt (length xs) k)
+-- the order of the two sides is no matter
+pub bytes_eq_flip : (xs ys : List ℕ) → bytes_eq xs ys ≡ bytes_eq ys xs
+bytes_eq_flip xs ys =
+    let d = bytes_eq-Decides xs ys in
+    let e = bytes_eq-Decides ys xs in
+    same_from_decides (bytes_eq xs ys) (bytes_eq ys xs) d (λ r. sym (e.0 r), λ r. e.1 (sym r))
 
 padded_short : (pw pad : List ℕ) (n : ℕ) → n ≡ min (length pw) 32 → length pw < 32 → take 32 (pw ++ pad) ≡ take (n - 0) pw ++ take (32 - n - 0) pad
 padded_short pw pad n m h =
@@ -45,12 +48,3 @@ pad_is area pw a b n m h p q =
     let v : drop (32 - n) (drop (n - 0) area) ≡ drop 32 area = drop-drop (32 - n) (n - 0) area ∙ ap (λ k. drop k area) s in
     let long = ap (λ k. drop k area) (length-padded pw) in
     let w = append_assoc a b (drop 32 area) in cc
-
--- the first n of 16 bytes, written over zeros
-pub cut_is : (xs a : List ℕ) (n : ℕ) → n ≤ 16 → a ≡ take (n - 0) xs → take 16 (a ++ post_of 0 (n - 0) (replicate 16 0)) ≡ take n xs ++ replicate (16 - n) 0
-cut_is xs a n h p =
-    let z : n - 0 ≡ n = omega arith in
-    let P : ℕ → Type 0 = λ k. a ++ drop k (replicate 16 0) ≡ take n xs ++ replicate (16 - n) 0 in
-    let q : a ≡ take n xs = p ∙ ap (λ k. take k xs) z in
-    let all = subst P (sym z) (rw (drop-replicate {X = ℕ} n 16 0, q)) in
-    ap (take 16) all ∙ take_all 16 (take n xs ++ replicate (16 - n) 0) (simp (length-append, length-take, length-replicate {A = ℕ}) (omega arith))

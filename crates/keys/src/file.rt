@@ -1,15 +1,16 @@
 // The file key: Algorithm 2.
-ghost use Rattle.std.specs.Prelude.{◌≡◌, ◌≤◌, take};
+ghost use Rattle.std.specs.Prelude.{◌≡◌};
 ghost use Rattle.md5_digest.specs.Md5.{md5 as md5_of};
 ghost use Rattle.keys.specs.Numbers.{low_bytes_of};
 ghost use Rattle.keys.specs.Key.{key_of};
-ghost use Rattle.keys.specs.File.{read, hashed, again, turns as turns_of, file_key};
+ghost use Rattle.keys.specs.File.{read, hashed, turns as turns_of, file_key};
 
 use crate::inputs::{Inputs, Revision};
 use crate::key::Key;
 use md5_digest::Md5;
 
 // P modulo 2^32.
+// Stays a pattern: an `as` may lose nothing, and the low four bytes are what is asked for.
 fn permissions(p: i64) -> [u8; 4]
     ensures { result ≡ low_bytes_of 4 p }
 {
@@ -26,9 +27,7 @@ fn first_digest(inputs: &Inputs, padded: &[u8]) -> [u8; 16]
     m.update(inputs.o);
     m.update(&permissions(inputs.p));
     m.update(inputs.id);
-    if let Revision::R4 = inputs.revision
-        && !inputs.metadata
-    {
+    if inputs.revision == Revision::R4 && !inputs.metadata {
         m.update(&[0xFF, 0xFF, 0xFF, 0xFF]);
     }
     m.finish()
@@ -44,32 +43,24 @@ fn turns(revision: Revision) -> usize
     }
 }
 
-// The digest of the first n bytes, that many times over.
-fn digest_again(digest: [u8; 16], n: usize, turns: usize) -> [u8; 16]
-    requires { n ≤ 16 }
-    ensures { result ≡ again n turns digest }
+// The digest of a key, as a key of the same size.
+fn digested(key: Key) -> Key
+    ensures bytes { result.bytes ≡ md5_of (key_of key) }
+    ensures size { result.size ≡ key.size }
 {
-    let mut hash = digest;
-    for i in 0..turns {
-        hash = md5_digest::calculate(&hash[0..n]);
+    Key {
+        bytes: md5_digest::calculate(key.as_bytes()),
+        size: key.size,
     }
-    hash
-}
-
-// The digest whose first bytes are the key.
-fn key_digest(inputs: &Inputs, padded: &[u8]) -> [u8; 16]
-    ensures { take inputs.now.size.n result ≡ file_key (read inputs.now) padded.now }
-{
-    let digest = first_digest(inputs, padded);
-    digest_again(digest, inputs.size.n, turns(inputs.revision))
 }
 
 // The key, from the padded password.
 pub fn file_key(inputs: &Inputs, padded: &[u8]) -> Key
     ensures { (key_of result ≡ file_key (read inputs.now) padded.now) × (result.size ≡ inputs.now.size) }
 {
-    Key {
-        bytes: key_digest(inputs, padded),
+    let first = Key {
+        bytes: first_digest(inputs, padded),
         size: inputs.size,
-    }
+    };
+    (0..turns(inputs.revision)).fold(first, |key, _| digested(key))
 }

@@ -1,11 +1,12 @@
 // Keys of 1 to 16 bytes.
-ghost use Rattle.std.specs.Prelude.{◌≡◌, ◌-◌, ◌≤◌, ◌++◌, length, take};
+ghost use Rattle.std.specs.Prelude.{◌≡◌, ◌-◌, ◌≤◌, ◌++◌, length};
 ghost use Rattle.byte_strings.specs.Bytes.{zeros};
 ghost use Rattle.keys.specs.Key.{key_of};
 
 use crate::size::KeySize;
 
 // A key of 1 to 16 bytes: the first of `bytes`, as many as `size` says.
+// Stays an array with a size beside it: nothing is allocated.
 #[derive(Clone, Copy)]
 pub struct Key {
     pub(crate) bytes: [u8; 16],
@@ -28,18 +29,18 @@ impl Key {
         ensures { key_of result ≡ key_of self.now ++ zeros (16 - self.now.size.n) }
     {
         Key {
-            bytes: cut(&self.bytes, self.size.n),
+            bytes: zero_filled(self.as_bytes()),
             size: KeySize { n: 16 },
         }
     }
 }
 
-// The first n bytes, and zeros behind them.
-fn cut(bytes: &[u8; 16], n: usize) -> [u8; 16]
-    requires { n ≤ 16 }
-    ensures { take 16 result ≡ take n bytes.now ++ zeros (16 - n) }
+// The bytes, and zeros behind them.
+pub(crate) fn zero_filled<const N: usize>(front: &[u8]) -> [u8; N]
+    requires { length front.now ≤ N }
+    ensures { result ≡ front.now ++ zeros (N - length front.now) }
 {
-    let mut r = [0; 16];
-    r[0..n].copy_from_slice(&bytes[0..n]);
-    r
+    let mut bytes = [0; N];
+    bytes[..front.len()].copy_from_slice(front);
+    bytes
 }

@@ -1,79 +1,62 @@
 // The entry U: Algorithms 4, 5 and 6.
-ghost use Rattle.std.specs.Prelude.{◌≡◌, ◌<◌, ◌++◌, length};
-ghost use Rattle.byte_strings.specs.Bytes.{zeros};
+ghost use Rattle.std.specs.Prelude.{◌≡◌};
 ghost use Rattle.rc4.specs.Rc4.{rc4 as rc4_of};
 ghost use Rattle.keys.specs.Key.{key_of};
 ghost use Rattle.keys.specs.User.{key_xor, repeated, user_password2, user_password34, user_entry, same_front, agrees, HasLength32, OwnAgrees};
 
 use crate::inputs::Revision;
-use crate::key::Key;
+use crate::key::{Key, zero_filled};
 use crate::password::password_padding;
 use byte_strings::same;
 use md5_digest::Md5;
 use rc4::Rc4;
 
-// RC4 under a key from its start, into a buffer as long as the input.
-fn encrypt(key: &[u8], input: &[u8], out: &mut [u8])
-    requires { (0 < length key.now) × (length out.old ≡ length input.now) }
-    ensures { out.new ≡ rc4_of key.now input.now }
+// RC4 under a key from its start.
+fn encrypted<const N: usize>(key: &Key, input: &[u8; N]) -> [u8; N]
+    ensures { result ≡ rc4_of (key_of key.now) input.now }
 {
-    let Some(mut rc) = Rc4::new(key) else {
+    let Some(mut rc) = Rc4::new(key.as_bytes()) else {
         unreachable()
     };
-    let _ = rc.encrypt(input, out);
+    let mut out = [0; N];
+    let _ = rc.encrypt(input, &mut out);
+    out
 }
 
 // The key with each byte XORed with a number.
 fn xored(key: &Key, i: u8) -> Key
     ensures { key_of result ≡ key_xor i (key_of key.now) }
 {
-    let mut bytes = key.bytes;
-    for k in 0..16 {
-        bytes[k] = bytes[k] ^ i;
-    }
     Key {
-        bytes,
+        bytes: key.bytes.map(|byte| byte ^ i),
         size: key.size,
     }
 }
 
-// Encrypts once more, under the key XORed with a number.
+// Encrypts once more, under the key XORed with the number of the turn.
 fn turn(key: &Key, i: u8, x: &[u8; 16]) -> [u8; 16]
     ensures { result ≡ rc4_of (key_xor i (key_of key.now)) x.now }
 {
-    let mut r = [0; 16];
-    encrypt(xored(key, i).as_bytes(), x, &mut r);
-    r
+    encrypted(&xored(key, i), x)
 }
 
-// Encrypts under the key, and 19 times more under the key XORed with the number of the turn.
+// Encrypts under the key, and in 19 turns more.
 fn repeat(key: &Key, digest: &[u8; 16]) -> [u8; 16]
     ensures { result ≡ repeated (key_of key.now) 19 digest.now }
 {
-    let mut x = [0; 16];
-    encrypt(key.as_bytes(), digest, &mut x);
-    for i in 0..19 {
-        x = turn(key, i + 1, &x);
+    let mut x = encrypted(key, digest);
+    // Stays a loop over the turn's number, which is a part of the key: nothing is inferred of a closure that returns an array.
+    for i in 1..20 {
+        x = turn(key, i, &x);
     }
     x
-}
-
-// 16 bytes, and 16 zeros behind them.
-fn filled(front: [u8; 16]) -> [u8; 32]
-    ensures { result ≡ front ++ zeros 16 }
-{
-    let mut r = [0; 32];
-    r[0..16].copy_from_slice(&front);
-    r
 }
 
 // Algorithm 4.
 fn user_password_rev2(key: &Key) -> [u8; 32]
     ensures { result ≡ user_password2 (key_of key.now) }
 {
-    let mut u = [0; 32];
-    encrypt(key.as_bytes(), &password_padding(), &mut u);
-    u
+    encrypted(key, &password_padding())
 }
 
 // Algorithm 5.
@@ -83,10 +66,11 @@ fn user_password_rev34(key: &Key, id: &[u8]) -> [u8; 32]
     let mut m = Md5::new();
     m.update(&password_padding());
     m.update(id);
-    filled(repeat(key, &m.finish()))
+    zero_filled(&repeat(key, &m.finish()))
 }
 
 // The U that the key gives.
+// Stays three parameters, here and below: the other inputs of a file key are not asked for.
 pub fn user_entry(revision: Revision, id: &[u8], key: &Key) -> [u8; 32]
     ensures { result ≡ user_entry revision id.now (key_of key.now) }
 {
@@ -100,8 +84,7 @@ pub fn user_entry(revision: Revision, id: &[u8], key: &Key) -> [u8; 32]
 fn same_front(u: &[u8], own: &[u8; 32]) -> bool
     ensures { result ≡ same_front u.now own.now }
 {
-    let n = u.len().min(16);
-    same(&u[0..n], &own[0..16])
+    u.starts_with(&own[..16])
 }
 
 // Whether U is the one that the key gives.
@@ -115,9 +98,7 @@ pub fn agrees_with(revision: Revision, id: &[u8], key: &Key, u: &[u8]) -> bool
 }
 
 // U has 32 bytes, and the one that a key gives agrees with it.
-pub fn laws() -> u8
+pub fn laws()
     ensures long { HasLength32 }
     ensures agree { OwnAgrees }
-{
-    0
-}
+{}

@@ -58,7 +58,7 @@ finished m m1 m2 front bits pad first second whole =
     ∙ ap (absorbing m) (pad ∙ ap padding (sym (add-zero m.count))))
 
 -- the count after the padding
-pub whole-blocks : (n n1 n2 fill front bits : ℕ) → Fills n fill → front ≡ fill → bits ≡ 8 → n1 % 2 ^ 64 ≡ (n + front) % 2 ^ 64 → n2 % 2 ^ 64 ≡ (n1 + bits) % 2 ^ 64 → n2 % 64 ≡ 0
+pub whole-blocks : (n n1 n2 fill front bits : ℕ) → Fills n fill → front ≡ fill → bits ≡ 8 → n1 ≡ (n + front) % 2 ^ 64 → n2 ≡ (n1 + bits) % 2 ^ 64 → n2 % 64 ≡ 0
 whole-blocks n n1 n2 fill front bits fills ef eb e1 e2 =
     let first : n1 % 64 ≡ (n + fill) % 64 = omega arith in
     let second : n2 % 64 ≡ (n1 + 8) % 64 = omega arith in

@@ -29,13 +29,6 @@ padding_mod x y =
     let bits : 8 * (x + y) ≡ 8 * (x % 2 ^ 64 + y) + (8 * (x / 2 ^ 64)) * 256 ^ 8 = omega arith in
     ap₂ (λ n bs. 128 ∷ (replicate n 0 ++ bs)) zeros (sym (low_bytes_same 8 (8 * (x + y)) (8 * (x % 2 ^ 64 + y)) (8 * (x / 2 ^ 64)) bits))
 
--- the digest, byte by byte from the four registers' bytes
-pub digest_is : (h : Registers) (a b c d : List ℕ) → a ≡ low_bytes 4 h.a → b ≡ low_bytes 4 h.b → c ≡ low_bytes 4 h.c → d ≡ low_bytes 4 h.d →
-    get_or a 0 0 ∷ get_or a 1 0 ∷ get_or a 2 0 ∷ get_or a 3 0 ∷ get_or b 0 0 ∷ get_or b 1 0 ∷ get_or b 2 0 ∷ get_or b 3 0
-    ∷ get_or c 0 0 ∷ get_or c 1 0 ∷ get_or c 2 0 ∷ get_or c 3 0 ∷ get_or d 0 0 ∷ get_or d 1 0 ∷ get_or d 2 0 ∷ get_or d 3 0 ∷ [] ≡ digest h
-unfolding digest
-digest_is h a b c d ha hb hc hd = rw (ha, hb, hc, hd) refl
-
 length-padding : (n : ℕ) → length (padding n) ≡ (119 - n % 64) % 64 + 9
 unfolding padding
 length-padding n = simp (length-append, length-replicate) (omega arith)

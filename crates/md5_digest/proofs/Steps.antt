@@ -1,5 +1,6 @@
 -- One step, from its parts as the code has them.
-use Rattle.std.proofs.Common.{◌≡◌, ℕ, ◌+◌, ◌-◌, ◌*◌, ◌/◌, ◌%◌, ◌^◌, ◌<◌, Bool, T, eqb, ltb, List, [], ◌∷◌, ◌++◌, length, get_or, refl, ap, ◌∙◌, ap₂, add-one, arith, eqb→eq, ltb→lt}
+use Rattle.std.proofs.Common.{◌≡◌, ℕ, zero, suc, ◌+◌, ◌-◌, ◌*◌, ◌/◌, ◌%◌, ◌^◌, ◌<◌, Bool, T, eqb, ltb, List, [], ◌∷◌, ◌++◌, fold, length, get_or, sym, refl, ap, ◌∙◌, ap₂, add-one, add-zero, zero-add, arith, eqb→eq, ltb→lt}
+use Rattle.std.specs.List.{range_with_len}
 use lib.Bits.{bit_or}
 use Rattle.md5_digest.specs.declared.Registers.{Registers}
 use Rattle.md5_digest.specs.Md5.{rotated, sum32, mixed, word_number, shift_amount, sines, step, steps}
@@ -55,6 +56,18 @@ module _ (ws : List ℕ) (i : ℕ) (v : Registers) (f g s r : ℕ) where
       ap₂ (λ m n. rotated (sum32 (sum32 (sum32 v.a m) (get_or sines i 0)) (get_or ws n 0)) s) hf hg ∙ ap (rotated (sum32 (sum32 (sum32 v.a (mixed i v)) (get_or sines i 0)) (get_or ws (word_number i) 0))) shift.is in
       ap (with_b v) (hr ∙ code ∙ parts)
 
-pub steps_more : (ws : List ℕ) (v : Registers) (n : ℕ) → steps ws v (n + 1) ≡ step ws n (steps ws v n)
+steps_more : (ws : List ℕ) (v : Registers) (n : ℕ) → steps ws v (n + 1) ≡ step ws n (steps ws v n)
 unfolding steps
 steps_more ws v n = rw add-one refl
+
+-- the steps as a fold over their numbers
+fold-steps : (ws : List ℕ) (h : Registers) (n k : ℕ) → fold (λ v i. step ws i v) (steps ws h k) (range_with_len k n) ≡ steps ws h (k + n)
+fold-steps ws h zero k = ap (steps ws h) (sym (add-zero k))
+fold-steps ws h (suc n) k =
+    let one : step ws k (steps ws h k) ≡ steps ws h (k + 1) = sym (steps_more ws h k) in
+    let rest : k + 1 + n ≡ k + suc n = omega arith in
+    ap (λ v. fold (λ v i. step ws i v) v (range_with_len (k + 1) n)) one ∙ fold-steps ws h n (k + 1) ∙ ap (steps ws h) rest
+
+pub fold_is_steps : (ws : List ℕ) (h : Registers) (n : ℕ) → fold (λ v i. step ws i v) h (range_with_len 0 n) ≡ steps ws h n
+unfolding steps
+fold_is_steps ws h n = fold-steps ws h n 0 ∙ ap (steps ws h) (zero-add n)

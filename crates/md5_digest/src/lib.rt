@@ -2,7 +2,7 @@
 
 #![tactic(auto)]
 
-ghost use Rattle.std.specs.Prelude.{◌≡◌, ℕ, ◌+◌, ◌%◌, ◌^◌, ◌<◌, List, [], ◌∷◌, ◌++◌, length};
+ghost use Rattle.std.specs.Prelude.{◌≡◌, ℕ, ◌+◌, ◌%◌, ◌^◌, ◌<◌, ◌≤◌, List, [], ◌++◌, length};
 ghost use Rattle.md5_digest.specs.Md5.{mixed, word_number, compressed, digest, digested, Completes, HasSixteenBytes};
 ghost use Rattle.md5_digest.specs.Md5.{step as step_of, words as words_of, md5 as md5_of};
 ghost use Rattle.md5_digest.specs.Stream.{absorbing, digest_after};
@@ -10,9 +10,6 @@ ghost use Rattle.md5_digest.specs.Stream.{absorbing, digest_after};
 mod tables;
 
 use tables::{CONSTANTS, PADDING, SHIFT_AMOUNTS};
-
-// the place of a block's last byte
-const LAST: usize = 63;
 
 #[derive(Clone, Copy)]
 struct Registers {
@@ -22,18 +19,15 @@ struct Registers {
     d: u32,
 }
 
-impl Registers {
-    // The four registers, each low-order byte first.
-    fn to_bytes(self) -> [u8; 16]
-        ensures { result ≡ digest self }
-    {
-        let [a0, a1, a2, a3] = self.a.to_le_bytes();
-        let [b0, b1, b2, b3] = self.b.to_le_bytes();
-        let [c0, c1, c2, c3] = self.c.to_le_bytes();
-        let [d0, d1, d2, d3] = self.d.to_le_bytes();
-        [
-            a0, a1, a2, a3, b0, b1, b2, b3, c0, c1, c2, c3, d0, d1, d2, d3,
-        ]
+// The four registers, each low-order byte first.
+impl From<Registers> for [u8; 16] {
+    ghost from_gives = { λ h bytes. bytes ≡ digest h };
+
+    fn from(h: Registers) -> [u8; 16] {
+        let words = [h.a, h.b, h.c, h.d].map(u32::to_le_bytes);
+        let mut bytes = [0; 16];
+        bytes.copy_from_slice(words.as_flattened());
+        bytes
     }
 }
 
@@ -70,33 +64,28 @@ fn step(v: Registers, words: &[u32; 16], i: usize) -> Registers
     }
 }
 
-// The sixteen words of a block, each of four bytes, low-order byte first; zeros where the block ends early.
-fn words(block: &[u8]) -> [u32; 16]
-    requires { length block.now ≡ 64 }
+// The sixteen words of a block, each of four bytes, low-order byte first.
+fn words(block: &[u8; 64]) -> [u32; 16]
     ensures { result ≡ words_of 16 block.now }
 {
     let mut words = [0u32; 16];
-    let mut left = block;
-    for i in 0..16 {
+    let mut left = &block[..];
+    for word in &mut words {
         let [b0, b1, b2, b3, rest @ ..] = left else {
-            return words;
+            unreachable()
         };
-        words[i] = u32::from_le_bytes([*b0, *b1, *b2, *b3]);
+        *word = u32::from_le_bytes([*b0, *b1, *b2, *b3]);
         left = rest;
     }
     words
 }
 
 // The registers after a block.
-fn compress(h: Registers, block: &[u8]) -> Registers
-    requires { length block.now ≡ 64 }
+fn compress(h: Registers, block: &[u8; 64]) -> Registers
     ensures { result ≡ compressed h block.now }
 {
     let words = words(block);
-    let mut v = h;
-    for i in 0..64 {
-        v = step(v, &words, i);
-    }
+    let v = (0..64).fold(h, |v, i| step(v, &words, i));
     Registers {
         a: h.a.wrapping_add(v.a),
         b: h.b.wrapping_add(v.b),
@@ -106,6 +95,7 @@ fn compress(h: Registers, block: &[u8]) -> Registers
 }
 
 // A digest under way: the registers after the complete blocks, the bytes behind them, and the number of bytes given, modulo 2^64.
+// Stays a buffer with a count beside it: nothing is allocated, and the padding asks for the count of all bytes.
 #[derive(Clone, Copy)]
 pub struct Md5 {
     chain: Registers,
@@ -114,45 +104,40 @@ pub struct Md5 {
 }
 
 impl Md5 {
-    // A digest that has been given nothing, from these registers.
-    fn from_registers(chain: Registers) -> Md5
-        ensures { (rest : List ℕ) → digest_after result rest ≡ digested chain rest }
+    // A digest that has been given nothing.
+    pub fn new() -> Md5
+        ensures { (rest : List ℕ) → digest_after result rest ≡ md5_of rest }
     {
         Md5 {
-            chain,
+            chain: Registers {
+                a: 0x67452301,
+                b: 0xefcdab89,
+                c: 0x98badcfe,
+                d: 0x10325476,
+            },
             buffer: [0; 64],
             count: 0,
         }
     }
 
-    // A digest that has been given nothing.
-    pub fn new() -> Md5
-        ensures { (rest : List ℕ) → digest_after result rest ≡ md5_of rest }
-    {
-        Md5::from_registers(Registers {
-            a: 0x67452301,
-            b: 0xefcdab89,
-            c: 0x98badcfe,
-            d: 0x10325476,
-        })
-    }
-
-    // One byte more.
-    fn push(&mut self, byte: u8)
-        ensures absorbs { (more : List ℕ) → absorbing self.new more ≡ absorbing self.old (byte ∷ more) }
-        ensures counts { self.new.count ≡ (self.old.count + 1) % 2 ^ 64 }
+    // More of the open block, which may complete it.
+    fn hold(&mut self, part: &[u8])
+        requires { self.old.count % 64 + length part.now ≤ 64 }
+        ensures absorbs { (more : List ℕ) → absorbing self.new more ≡ absorbing self.old (part.now ++ more) }
+        ensures counts { self.new.count ≡ (self.old.count + length part.now) % 2 ^ 64 }
     {
         let at = (self.count % 64) as usize;
-        self.buffer[at] = byte;
-        self.count = self.count.wrapping_add(1);
-        if at == LAST {
+        let end = at + part.len();
+        self.buffer[at..end].copy_from_slice(part);
+        self.count = self.count.wrapping_add(part.len() as u64);
+        if end == self.buffer.len() {
             self.chain = compress(self.chain, &self.buffer);
         }
     }
 
     // A whole block, where no byte of an open block is held.
-    fn take_block(&mut self, block: &[u8])
-        requires { (self.old.count % 64 ≡ 0) × (length block.now ≡ 64) }
+    fn take_block(&mut self, block: &[u8; 64])
+        requires { self.old.count % 64 ≡ 0 }
         ensures absorbs { (more : List ℕ) → absorbing self.new more ≡ absorbing self.old (block.now ++ more) }
         ensures counts { self.new.count ≡ (self.old.count + 64) % 2 ^ 64 }
     {
@@ -160,29 +145,20 @@ impl Md5 {
         self.count = self.count.wrapping_add(64);
     }
 
-    // A piece, by whole blocks where it can be.
-    fn absorb(&mut self, piece: &[u8])
-        ensures absorbs { (more : List ℕ) → absorbing self.new more ≡ absorbing self.old (piece.now ++ more) }
-        ensures counts { self.new.count % 2 ^ 64 ≡ (self.old.count + length piece.now) % 2 ^ 64 }
-        ensures digests { (rest : List ℕ) → digest_after self.new rest ≡ digest_after self.old (piece.now ++ rest) }
-    {
-        let mut left = piece;
-        while let [first, rest @ ..] = left {
-            if self.count % 64 == 0 && left.len() >= 64 {
-                self.take_block(&left[0..64]);
-                left = &left[64..];
-            } else {
-                self.push(*first);
-                left = rest;
-            }
-        }
-    }
-
     // Takes the next piece of the message. Only the joining of the pieces matters.
     pub fn update(&mut self, piece: &[u8])
-        ensures { (rest : List ℕ) → digest_after self.new rest ≡ digest_after self.old (piece.now ++ rest) }
+        ensures absorbs { (more : List ℕ) → absorbing self.new more ≡ absorbing self.old (piece.now ++ more) }
+        ensures counts { self.new.count ≡ (self.old.count + length piece.now) % 2 ^ 64 }
+        ensures digests { (rest : List ℕ) → digest_after self.new rest ≡ digest_after self.old (piece.now ++ rest) }
     {
-        self.absorb(piece);
+        let open = (64 - (self.count % 64) as usize) % 64;
+        let (front, rest) = piece.split_at(open.min(piece.len()));
+        self.hold(front);
+        let (blocks, end) = rest.as_chunks::<64>();
+        for block in blocks {
+            self.take_block(block);
+        }
+        self.hold(end);
     }
 
     // The padding and the length, which complete the last block.
@@ -192,8 +168,8 @@ impl Md5 {
         let bits = self.count.wrapping_mul(8);
         let at = (self.count % 64) as usize;
         let fill = if at < 56 { 56 - at } else { 120 - at };
-        self.absorb(&PADDING[0..fill]);
-        self.absorb(&bits.to_le_bytes());
+        self.update(&PADDING[0..fill]);
+        self.update(&bits.to_le_bytes());
     }
 
     // The digest of the pieces, joined.
@@ -201,7 +177,7 @@ impl Md5 {
         ensures { result ≡ digest_after self [] }
     {
         self.pad();
-        self.chain.to_bytes()
+        <[u8; 16]>::from(self.chain)
     }
 }
 
@@ -215,9 +191,7 @@ pub fn calculate(message: &[u8]) -> [u8; 16]
 }
 
 // The padding completes a block, with no more zeros than that takes; a digest has 16 bytes.
-pub fn laws() -> u8
+pub fn laws()
     ensures completes { Completes }
     ensures sixteen { HasSixteenBytes }
-{
-    0
-}
+{}

@@ -2,9 +2,10 @@
 
 #![tactic(auto)]
 
-ghost use Rattle.std.specs.Prelude.{◌≡◌, ◌<◌, ◌≤◌, length, MatchOption};
+ghost use Rattle.std.specs.Prelude.{◌≡◌, ◌<◌, length, MatchOption};
 ghost use Rattle.rc4.specs.Rc4.{identity, rounds, keyed, next, key_byte, stream, after, Applied, Joins, Undoes, HoldsEachOnce};
-ghost use Rattle.byte_strings.specs.Bytes.{Writes};
+
+use std::array;
 
 #[derive(Clone, Copy)]
 pub struct Rc4 {
@@ -17,11 +18,7 @@ pub struct Rc4 {
 fn ascending() -> [u8; 256]
     ensures { result ≡ identity }
 {
-    let mut s = [0u8; 256];
-    for i in 0..256 {
-        s[i] = i as u8;
-    }
-    s
+    array::from_fn(|i| i as u8)
 }
 
 // The table that the key schedule leaves.
@@ -31,23 +28,12 @@ fn schedule(key: &[u8]) -> [u8; 256]
 {
     let mut s = ascending();
     let mut j = 0u8;
+    // Stays a loop over the round's number: a round trades the entry at that number.
     for i in 0..256 {
         j = j.wrapping_add(s[i]).wrapping_add(key[i % key.len()]);
         s.swap(i, j as usize);
     }
     s
-}
-
-// The cipher before its first byte.
-fn start(key: &[u8]) -> Rc4
-    requires { 0 < length key.now }
-    ensures { result ≡ keyed key.now }
-{
-    Rc4 {
-        a: 0,
-        b: 0,
-        s: schedule(key),
-    }
 }
 
 impl Rc4 {
@@ -58,7 +44,11 @@ impl Rc4 {
         if key.is_empty() {
             return None;
         }
-        Some(start(key))
+        Some(Rc4 {
+            a: 0,
+            b: 0,
+            s: schedule(key),
+        })
     }
 
     // One step of the generator, and its key byte.
@@ -75,14 +65,13 @@ impl Rc4 {
         self.s[x.wrapping_add(y) as usize]
     }
 
-    // XORs the bytes with the key bytes, into the front of the output.
-    fn feed(&mut self, input: &[u8], out: &mut [u8])
-        requires { length input.now ≤ length out.old }
-        ensures state { self.new ≡ after self.old input.now }
-        ensures writes { Writes (stream self.old input.now) out.old out.new }
+    // XORs the bytes with the key bytes, in place.
+    fn apply(&mut self, bytes: &mut [u8])
+        ensures state { self.new ≡ after self.old bytes.old }
+        ensures bytes { bytes.new ≡ stream self.old bytes.old }
     {
-        for (i, x) in input.iter().enumerate() {
-            out[i] = *x ^ self.key_byte();
+        for byte in bytes.iter_mut() {
+            *byte ^= self.key_byte();
         }
     }
 
@@ -94,7 +83,9 @@ impl Rc4 {
         if out.len() < input.len() {
             return None;
         }
-        self.feed(input, out);
+        let front = &mut out[..input.len()];
+        front.copy_from_slice(input);
+        self.apply(front);
         Some(input.len())
     }
 
@@ -107,10 +98,8 @@ impl Rc4 {
 }
 
 // Feeding pieces is feeding them joined; the same key undoes it; the table holds each number once.
-pub fn laws() -> u8
+pub fn laws()
     ensures joins { Joins }
     ensures undoes { Undoes }
     ensures holds { HoldsEachOnce }
-{
-    0
-}
+{}

@@ -3,8 +3,8 @@ use Rattle.std.proofs.Common.{◌≡◌, ◌+◌, ◌-◌, ◌*◌, ◌++◌, le
 use Rattle.md5_digest.specs.Md5.{words}
 use Rattle.md5_digest.proofs.words.Given as goal
 
-abbrev pub invariant-loop-i : goal.invariant-loop-i
-invariant-loop-i l =
-    (length l.words ≡ 16)
-    × (length l.left + 4 * l.i ≡ 64)
-    × (take l.i l.words ++ words (16 - l.i) l.left ≡ words 16 l.block)
+abbrev pub invariant-loop-word : goal.invariant-loop-word
+invariant-loop-word l =
+    (length l.word-items ≡ 16)
+    × (length l.left + 4 * l.word-index ≡ 64)
+    × (take l.word-index l.word-items ++ words (16 - l.word-index) l.left ≡ words 16 l.block)

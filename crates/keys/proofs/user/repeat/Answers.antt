@@ -1,5 +1,5 @@
 -- One turn more.
-use Rattle.std.proofs.Common.{◌+◌, sym, ap, ◌∙◌}
+use Rattle.std.proofs.Common.{◌≡◌, ◌-◌, ap, ◌∙◌, arith}
 use Rattle.rc4.specs.Rc4.{rc4}
 use Rattle.keys.specs.Key.{key_of}
 use Rattle.keys.specs.User.{key_xor, repeated}
@@ -8,11 +8,16 @@ use Rattle.keys.proofs.user.repeat.Goals as goal
 
 pub loop-i-init : goal.loop-i-init
 unfolding repeated
-loop-i-init c = c.encrypt.ensures ∙ ap (λ k. rc4 k c.args.digest.now) c.as_bytes.ensures.value
+loop-i-init c = c.encrypted-x.ensures
 
 pub loop-i-preserved : goal.loop-i-preserved
 loop-i-preserved c =
     let key = key_of c.args.key.now in
     c.turn-x.ensures
-    ∙ ap (rc4 (key_xor (c.loop-i.i + 1) key)) c.loop-i.invariant
-    ∙ sym (repeated_more key c.loop-i.i c.args.digest.now)
+    ∙ ap (rc4 (key_xor c.loop-i.i key)) c.loop-i.invariant
+    ∙ repeated_more key c.loop-i.i c.args.digest.now (omega arith)
+
+pub returns : goal.returns
+returns c =
+    let done : c.loop-i.i - 1 ≡ 19 = omega arith in
+    c.loop-i.invariant ∙ ap (λ k. repeated (key_of c.args.key.now) k c.args.digest.now) done

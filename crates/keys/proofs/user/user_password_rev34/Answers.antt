@@ -12,4 +12,5 @@ unfolding user_password34
 returns c =
     let key = key_of c.args.key.now in
     let hash : c.finish.result ≡ md5 (password_padding ++ c.args.id.now) = search rules in
-    c.filled.ensures ∙ ap (λ x. x ++ zeros 16) (c.repeat.ensures ∙ ap (repeated key 19) hash)
+    let long : c.zero_filled.result ≡ c.repeat.result ++ zeros 16 = search rules in
+    long ∙ ap (λ x. x ++ zeros 16) (c.repeat.ensures ∙ ap (repeated key 19) hash)

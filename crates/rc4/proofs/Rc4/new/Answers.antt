@@ -1,0 +1,15 @@
+-- The cipher before its first byte.
+use Rattle.std.proofs.Common.{◌<◌, length, ap, rules}
+use Rattle.byte_strings.specs.Bytes.{Bytes}
+use Rattle.rc4.specs.declared.Rc4.{Rc4}
+use Rattle.rc4.specs.Rc4.{keyed}
+use Rattle.rc4.proofs.Rc4.new.Goals as goal
+
+with_table : Bytes → Rc4
+with_table t = record { a = 0; b = 0; s = t }
+
+pub returns : goal.returns
+unfolding keyed with_table
+returns c =
+    let some : 0 < length c.args.key.now = search rules in
+    (some, ap with_table c.schedule.ensures)
