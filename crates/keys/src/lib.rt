@@ -11,7 +11,7 @@ mod size;
 mod user;
 
 pub use file::file_key;
-pub use inputs::{Inputs, Revision};
+pub use inputs::{Inputs, Revision, RevisionError};
 pub use key::Key;
 pub use object::object_key;
 pub use password::pad_password;
