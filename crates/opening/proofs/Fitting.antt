@@ -9,6 +9,7 @@ use Rattle.filters.specs.Table.{table_of, bad_entry}
 use Rattle.filters.proofs.Rule.{sound as table_sound}
 use Rattle.keys.specs.declared.inputs.Revision.{Revision}
 use Rattle.keys.specs.declared.inputs.Revision.TheVariants.{R2, R3, R4}
+use Rattle.keys.specs.Inputs.{revision_of}
 use Rattle.opening.specs.declared.checks.Version.{Version}
 use Rattle.opening.specs.declared.checks.Version.TheVariants.{V1, V2, V4}
 use Rattle.opening.specs.declared.checks.Head.{Head}
@@ -17,7 +18,7 @@ use Rattle.opening.specs.declared.file.Tags.{Tags}
 use Rattle.opening.specs.declared.refusal.Field.TheVariants.{Filter, V, R, StmF, StrF}
 use Rattle.opening.specs.declared.refusal.Refusal.{Refusal}
 use Rattle.opening.specs.declared.refusal.Refusal.TheVariants.{Missing, NotStandard, OtherV, ShortLength, LateR, LongLength, EarlyR}
-use Rattle.opening.specs.Checks.{refuse, given, need, and_then, version_of, key_length, standard, tag_by, listed_tags, tags_of, admitted, revision_of, limited}
+use Rattle.opening.specs.Checks.{refuse, given, need, and_then, version_of, key_length, standard, tag_by, listed_tags, tags_of, admitted, limited}
 use Rattle.opening.specs.Making.{filled, new_file}
 use Rattle.opening.specs.Inputs.{basis_of}
 use Rattle.opening.specs.Laws.{version_number, revision_number, Tagged, Fit, basis}
