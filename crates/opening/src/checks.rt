@@ -53,6 +53,7 @@ impl Version {
 #[derive(Clone, Copy)]
 pub struct Head {
     pub(crate) version: Version,
+    // Stays a number: it is judged only by `limit`, behind the tags and the length.
     pub(crate) r: u8,
     pub(crate) n: usize,
     pub(crate) tags: Tags,
