@@ -7,14 +7,13 @@ use Rattle.filters.specs.Tag.{standard_tag}
 use Rattle.filters.specs.Series.{Named, Knows, Below}
 use Rattle.filters.specs.Table.{Table, part_of, last_named}
 use Rattle.filters.specs.Lookup.{found, no_method, unknown_method, named, of_entry, looked_up, tag_of}
-use Rattle.filters.proofs.Entries.{none-some}
 
 -- by what the two answer for one text
 text_below : (text : Bytes) (own a b : Option Tag) → ((a ≡ None → ⊥) → b ≡ None → ⊥) → (a ≡ None) ⊎ (a ≡ own) → (b ≡ None) ⊎ (b ≡ own) → Below (tag_of (elim a [ Some t ↦ found t | None ↦ unknown_method text ])) (tag_of (elim b [ Some t ↦ found t | None ↦ unknown_method text ]))
 text_below text own None b knows _ _ = inr refl
-text_below text own (Some s) None knows _ _ = absurd (knows (none-some s) refl)
-text_below text own (Some s) (Some t) knows (inl e) _ = absurd (none-some s e)
-text_below text own (Some s) (Some t) knows (inr e) (inl f) = absurd (none-some t f)
+text_below text own (Some s) None knows _ _ = absurd (knows (λ e. cc) refl)
+text_below text own (Some s) (Some t) knows (inl e) _ = cc
+text_below text own (Some s) (Some t) knows (inr e) (inl f) = cc
 text_below text own (Some s) (Some t) knows (inr e) (inr f) = inl (cc)
 
 module _ (small large : Bytes → Option Tag) (small_named : Named small) (large_named : Named large) (knows : Knows small large) where

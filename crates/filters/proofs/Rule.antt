@@ -3,7 +3,6 @@ use Rattle.std.proofs.Common.{◌≡◌, ℕ, suc, ◌+◌, ◌≤◌, Bool, tru
 use Rattle.std.proofs.lemmas.Bool.{leb-true, le-leb, and_parts, and_from, both_ways}
 use Rattle.filters.specs.declared.table.FilterEntry.{FilterEntry}
 use Rattle.filters.specs.Table.{Table, end_of, in_order, first_bad, bad_entry}
-use Rattle.filters.proofs.Entries.{none-some}
 use Rattle.filters.specs.Laws.{Exactly, pairs, Ordered, Sound, Fault}
 
 -- what the test of an entry decides
@@ -27,7 +26,7 @@ keeps size before e k =
 -- an entry's test, and what its outcome says of the search
 went_on : (b : Bool) (i : ℕ) (o : Option ℕ) → cond b o (Some i) ≡ None → (b ≡ true) × (o ≡ None)
 went_on true i o h = (refl, h)
-went_on false i o h = absurd (none-some i h)
+went_on false i o h = cc
 
 ordered : (size i before : ℕ) (es : List FilterEntry) → first_bad size i before es ≡ None → Ordered size before (pairs es)
 ordered size i before [] h = tt
@@ -63,7 +62,7 @@ stopped_by size i before k e es false b-is h behind =
     record { j = 0; place = omega arith; passed = tt; broken = λ o. both_ways _ b-is (keeps size before e (record { name_starts = o.0; name_ends = o.1; method_starts = o.2.0; method_ends = o.2.1 })) }
 
 stopped : (size i before k : ℕ) (es : List FilterEntry) → first_bad size i before es ≡ Some k → Stopped size i before k es
-stopped size i before k [] h = absurd (none-some k (sym h))
+stopped size i before k [] h = cc
 stopped size i before k (e ∷ es) h = stopped_by size i before k e es (in_order size before e) refl h (stopped size (i + 1) (end_of e.method) k es)
 
 pub fault : (t : Table) (i : ℕ) → bad_entry t ≡ Some i → Fault t i

@@ -1,5 +1,6 @@
 -- The filter table: entries over a block of bytes, each a name and a method text.
 use Rattle.std.specs.Prelude.{ℕ, ◌+◌, Bool, cond, ◌&&◌, List, [], ◌∷◌, length, take, drop, Some, None, Option, nat_le}
+use Rattle.std.specs.Option.{option_or}
 use Rattle.std.specs.Str.{bytes_eq}
 use Rattle.byte_strings.specs.Bytes.{Bytes}
 use Rattle.filters.specs.declared.table.Span.{Span}
@@ -41,12 +42,7 @@ part_of block s = take s.len (drop s.offset block)
 abbrev pub bears : Bytes → Bytes → FilterEntry → Bool
 bears block name e = bytes_eq (part_of block e.name) name
 
--- the first of two answers, or else the second
-abbrev pub or_else : Option FilterEntry → Option FilterEntry → Option FilterEntry
-or_else (Some e) other = Some e
-or_else None other = other
-
--- the last of the entries that bears the name
+-- the last of the entries that bears the name: the one found behind, or else the first
 abbrev pub last_named : Bytes → Bytes → List FilterEntry → Option FilterEntry
 last_named block name [] = None
-last_named block name (e ∷ es) = or_else (last_named block name es) (cond (bears block name e) (Some e) None)
+last_named block name (e ∷ es) = option_or (last_named block name es) (cond (bears block name e) (Some e) None)

@@ -3,8 +3,6 @@
 ghost use Rattle.filters.specs.Laws.{FilterLaws};
 
 // The table's rule, which entry of a name counts, and what a smaller series finds.
-pub fn laws() -> u8
+pub fn laws()
     ensures { FilterLaws }
-{
-    0
-}
+{}

@@ -1,15 +1,15 @@
 // Looking a crypt filter up.
 
 ghost use Rattle.std.specs.Prelude.{◌≡◌};
-ghost use Rattle.filters.specs.Table.{last_named, table_of};
+ghost use Rattle.filters.specs.Table.{table_of};
 ghost use Rattle.filters.specs.Lookup.{looked_up, read, tag_of};
 
 use crate::series::Series;
-use crate::table::{FilterEntry, FilterTable, part};
+use crate::table::FilterTable;
 use crate::tag::Tag;
-use byte_strings::same;
 
 // What became of a filter's name. The bytes are the caller's own.
+// Stays an enum, and no Result: none of the cases is a refusal, and three of them borrow the text that they speak of.
 #[derive(Clone, Copy)]
 pub enum Lookup<'a> {
     // the tag of its method
@@ -34,30 +34,17 @@ impl Lookup<'_> {
     }
 }
 
-// The last entry that bears the name.
-fn last_named(block: &[u8], entries: &[FilterEntry], name: &[u8]) -> Option<FilterEntry>
-    ensures { result ≡ last_named block.now name.now entries.now }
-{
-    let mut last = None;
-    for e in entries {
-        if same(part(block, e.name), name) {
-            last = Some(*e);
-        }
-    }
-    last
-}
-
 // What the table and the series say of the filter of this name.
 pub fn look_up<'a, S: Series>(series: &S, table: FilterTable<'a>, name: &'a [u8]) -> Lookup<'a>
     ensures { read result ≡ looked_up (S.meaning series.now) (table_of table.entry) name.now }
 {
-    let Some(e) = last_named(table.block, table.entries, name) else {
+    let Some(e) = table.last_named(name) else {
         return Lookup::NotListed(name);
     };
     if e.method.len == 0 {
         return Lookup::NoMethod(name);
     }
-    let text = part(table.block, e.method);
+    let text = table.part(e.method);
     match series.tag(text) {
         Some(tag) => Lookup::Found(tag),
         None => Lookup::UnknownMethod(text),

@@ -1,9 +1,12 @@
 // The filter table, CF: which crypt filters a file lists, and the method text of each.
 
 ghost use Rattle.std.specs.Prelude.{◌≡◌};
-ghost use Rattle.filters.specs.Table.{end_of, in_order, first_bad, bad_entry, part_of, table_of};
+ghost use Rattle.filters.specs.Table.{end_of, in_order, first_bad, bad_entry, part_of, last_named, table_of};
+
+use byte_strings::same;
 
 // A part of the table's block, by offset and length.
+// Stays two numbers, and no slice: the table's rule is about where a pair lies, also one that lies past the block.
 #[derive(Clone, Copy)]
 pub struct Span {
     pub offset: u32,
@@ -11,6 +14,7 @@ pub struct Span {
 }
 
 // An entry: where the filter's name stands, and its method text, of length 0 where it has none.
+// Stays a pair, and no option: the table's rule asks of an empty method text, too, where it lies.
 #[derive(Clone, Copy)]
 pub struct FilterEntry {
     pub name: Span,
@@ -33,15 +37,6 @@ impl Span {
     }
 }
 
-// The part of the block, cut at the block's end.
-pub(crate) fn part(block: &[u8], s: Span) -> &[u8]
-    ensures { result.now ≡ part_of block.now s }
-{
-    let from = (s.offset as usize).min(block.len());
-    let to = (s.end() as usize).min(block.len());
-    &block[from..to]
-}
-
 impl FilterEntry {
     // Whether the name starts no earlier than `before`, the method text no earlier than the name's end, and both end by `size`.
     fn in_order(&self, size: u64, before: u64) -> bool
@@ -56,6 +51,7 @@ impl FilterEntry {
 }
 
 // The place of the first entry that breaks the table's rule in a block of that size.
+// Stays a loop over the entries with their index: the refusal names the entry, and each is held against the one before.
 fn first_bad(size: u64, entries: &[FilterEntry]) -> Option<usize>
     ensures { result ≡ first_bad size 0 0 entries.now }
 {
@@ -69,12 +65,33 @@ fn first_bad(size: u64, entries: &[FilterEntry]) -> Option<usize>
     None
 }
 
-impl FilterTable<'_> {
+impl<'a> FilterTable<'a> {
     // The place of the first entry that breaks the table's rule: in list order each pair starts no earlier than the end
     // of the pair before, and ends by the block's end.
     pub fn bad_entry(self) -> Option<usize>
         ensures { result ≡ bad_entry (table_of self.entry) }
     {
         first_bad(self.block.len() as u64, self.entries)
+    }
+
+    // The part of the block, cut at the block's end.
+    pub(crate) fn part(&self, span: Span) -> &'a [u8]
+        ensures { result.now ≡ part_of self.now.block.now span }
+    {
+        let block = self.block;
+        let from = (span.offset as usize).min(block.len());
+        let to = (span.end() as usize).min(block.len());
+        &block[from..to]
+    }
+
+    // The last entry that bears the name.
+    pub(crate) fn last_named(&self, name: &[u8]) -> Option<FilterEntry>
+        ensures { result ≡ last_named self.now.block.now name.now self.now.entries.now }
+    {
+        self.entries
+            .iter()
+            .rev()
+            .find(|e| same(self.part(e.name), name))
+            .copied()
     }
 }

@@ -20,6 +20,7 @@ pub enum Tag {
 
 impl Tag {
     // The tag that a method text has by the standard.
+    // Stays a chain of comparisons that answers an option: a text without a tag is no failure, and a series answers alike.
     pub fn from_name(name: &[u8]) -> Option<Tag>
         ensures { result ≡ standard_tag name.now }
     {

@@ -78,7 +78,7 @@ fn carry_out(rt: &HostRuntime, lines: bool, text: &[u8]) -> anyhow::Result<()> {
 
 fn run(rt: &HostRuntime) -> anyhow::Result<()> {
     // what the calls below promise together, for the shipped series and methods
-    let _ = promises::<Series1, Series2, DecryptorTag>();
+    promises::<Series1, Series2, DecryptorTag>();
     let options = read_options(rt)?;
     let text = read_job(rt, options.job)?;
     carry_out(rt, options.lines, text.as_slice())

@@ -9,17 +9,19 @@ use Rattle.filters.specs.Table.{table_of, bad_entry}
 use Rattle.filters.proofs.Rule.{sound as table_sound}
 use Rattle.keys.specs.declared.inputs.Revision.{Revision}
 use Rattle.keys.specs.declared.inputs.Revision.TheVariants.{R2, R3, R4}
+use Rattle.keys.specs.Inputs.{revision_of}
+use Rattle.keys.specs.File.{Basis}
 use Rattle.opening.specs.declared.checks.Version.{Version}
 use Rattle.opening.specs.declared.checks.Version.TheVariants.{V1, V2, V4}
 use Rattle.opening.specs.declared.checks.Head.{Head}
 use Rattle.opening.specs.declared.fields.Fields.{Fields}
 use Rattle.opening.specs.declared.file.Tags.{Tags}
-use Rattle.opening.specs.declared.refusal.Field.TheVariants.{Filter, V, R, StmF, StrF}
+use Rattle.opening.specs.declared.refusal.Field.TheVariants.{Filter, V, R, StmF, StrF, P}
 use Rattle.opening.specs.declared.refusal.Refusal.{Refusal}
 use Rattle.opening.specs.declared.refusal.Refusal.TheVariants.{Missing, NotStandard, OtherV, ShortLength, LateR, LongLength, EarlyR}
-use Rattle.opening.specs.Checks.{refuse, given, need, and_then, version_of, key_length, standard, tag_by, listed_tags, tags_of, admitted, revision_of, limited}
+use Rattle.opening.specs.Checks.{refuse, given, need, and_then, version_of, key_length, standard, tag_by, listed_tags, tags_of, admitted, limited}
 use Rattle.opening.specs.Making.{filled, new_file}
-use Rattle.opening.specs.Inputs.{basis_of}
+use Rattle.opening.specs.Inputs.{basis_of, derived}
 use Rattle.opening.specs.Laws.{version_number, revision_number, Tagged, Fit, basis}
 use Rattle.opening.proofs.Passing.{refuse_ok, given_ok, sound_ok, then_ok}
 
@@ -43,7 +45,7 @@ version_by : (v : ℕ) (a b c : Bool) → eqb v 1 ≡ a → eqb v 2 ≡ b → eq
 version_by v true b c p q r version h = let e : V1 ≡ version = cc in eqb-true v 1 p ∙ ap version_number e
 version_by v false true c p q r version h = let e : V2 ≡ version = cc in eqb-true v 2 q ∙ ap version_number e
 version_by v false false true p q r version h = let e : V4 ≡ version = cc in eqb-true v 4 r ∙ ap version_number e
-version_by v false false false p q r version h = let z : ◌≡◌ {A = ℕ} 0 1 = cc in absurd (omega arith)
+version_by v false false false p q r version h = cc
 
 version_is : (v : ℕ) (version : Version) → version_of v ≡ Some version → v ≡ version_number version
 version_is v version h = version_by v (eqb v 1) (eqb v 2) (eqb v 4) refl refl refl version h
@@ -162,35 +164,43 @@ limited_by version R4 n t h = simp (le-ltb 16 n h)
 pub limited_passes : (series : Bytes → Option Tag) (f : Fields) (a : Fit series f) → limited (head_by series f a) ≡ Ok (a.revision, key_length a.version f.length)
 limited_passes series f a = limited_by a.version a.revision (key_length a.version f.length) a.tags a.most
 
+-- what these checks leave with P, for fit fields
+pub derived_passes : (series : Bytes → Option Tag) (f : Fields) (a : Fit series f) → derived f (head_by series f a) a.o.now ≡ Ok (basis series f a)
+derived_passes series f a = simp (a.has_p, limited_passes series f a)
+
 -- what the checks leave comes from fit fields
-pub record From (series : Bytes → Option Tag) (f : Fields) (h : Head) (l : Revision × ℕ) (o : Bor Bytes) (p : ℤ) : Type 0 where
+pub record From (series : Bytes → Option Tag) (f : Fields) (h : Head) (b : Basis) : Type 0 where
   pub fit : Fit series f
-  pub same_basis : basis_of f l o.now p ≡ basis series f fit
+  pub same_basis : b ≡ basis series f fit
   pub same_file : (n : ℕ) (key : Bytes) → new_file h n key ≡ record { key = filled fit.version n key; tags = fit.tags }
 
-pub fit_from : (series : Bytes → Option Tag) (f : Fields) (h : Head) (l : Revision × ℕ) (o : Bor Bytes) (p : ℤ) → admitted series f ≡ Ok h → limited h ≡ Ok l → f.o ≡ Some o → f.p ≡ Some p → From series f h l o p
-fit_from series f h l o p head limit has_o has_p =
+pub fit_from : (series : Bytes → Option Tag) (f : Fields) (h : Head) (b : Basis) (o : Bor Bytes) → admitted series f ≡ Ok h → f.o ≡ Some o → derived f h o.now ≡ Ok b → From series f h b
+fit_from series f h b o head has_o derives =
     let a = admitted_is series f h head in
-    let b = limited_is h l limit in
-    let is : l ≡ (revision_of h.r, key_length h.version f.length) = b.is ∙ ap (λ n. (revision_of h.r, n)) a.n in
+    let at_limit : ℤ → Result Basis Refusal = λ p. and_then (limited h) (λ l. Ok (basis_of f l o.now p)) in
+    let p = given_ok f.p (Missing P) at_limit b derives in
+    let l = then_ok (limited h) (λ l. Ok (basis_of f l o.now p.0)) b p.2 in
+    let m = limited_is h l.0 l.1 in
+    let limits : l.0 ≡ (revision_of h.r, key_length h.version f.length) = m.is ∙ ap (λ n. (revision_of h.r, n)) a.n in
+    let told : b ≡ basis_of f l.0 o.now p.0 = cc l.2 in
     record {
       fit = record {
         filter = a.filter;
         version = h.version;
         revision = revision_of h.r;
         o = o;
-        p = p;
+        p = p.0;
         tags = h.tags;
         has_filter = a.has_filter;
         standard = a.standard;
         has_v = a.has_v;
-        has_r = a.has_r ∙ ap Some (revision_is h.r b.early b.late);
+        has_r = a.has_r ∙ ap Some (revision_is h.r m.early m.late);
         has_o = has_o;
-        has_p = has_p;
+        has_p = p.1;
         some = (let n = a.n in let s = a.some in omega arith);
-        most = (let n = a.n in let s = b.most in omega arith);
+        most = (let n = a.n in let s = m.most in omega arith);
         tagged = a.tagged;
       };
-      same_basis = ap (λ x. basis_of f x o.now p) is;
+      same_basis = told ∙ ap (λ x. basis_of f x o.now p.0) limits;
       same_file = λ n key. refl;
     }

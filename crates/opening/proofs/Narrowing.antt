@@ -13,12 +13,12 @@ use Rattle.opening.specs.declared.checks.Version.{Version}
 use Rattle.opening.specs.declared.checks.Version.TheVariants.{V1, V2, V4}
 use Rattle.opening.specs.declared.fields.Fields.{Fields}
 use Rattle.opening.specs.declared.file.Tags.{Tags}
-use Rattle.opening.specs.declared.refusal.Field.TheVariants.{V, R, StmF, StrF, O, U, P}
+use Rattle.opening.specs.declared.refusal.Field.TheVariants.{V, R, StmF, StrF, O, U}
 use Rattle.opening.specs.declared.refusal.Refusal.{Refusal}
 use Rattle.opening.specs.declared.refusal.Refusal.TheVariants.{Missing, OtherV, ShortLength, WorkSpace, WrongPassword}
 use Rattle.opening.specs.File.{Opened}
-use Rattle.opening.specs.Checks.{refuse, given, sound, and_then, version_of, key_length, standard, tags_of, admitted, limited}
-use Rattle.opening.specs.Inputs.{basis_of}
+use Rattle.opening.specs.Checks.{refuse, given, sound, and_then, version_of, key_length, standard, tags_of, admitted}
+use Rattle.opening.specs.Inputs.{derived}
 use Rattle.opening.specs.Open.{authenticated, opened}
 use Rattle.opening.specs.Laws.{Narrower, Both, Alike}
 
@@ -88,10 +88,9 @@ module _ (small large : Bytes → Option Tag) (small_named : Named small) (large
       both_then HeadBelow Narrower (admitted small f) (admitted large f) _ _ admitted_below (λ h k below.
       both-given Narrower f.o (Missing O) _ _ (λ o.
       both-given Narrower f.u (Missing U) _ _ (λ u.
-      both-given Narrower f.p (Missing P) _ _ (λ p.
-      let go : Head → Result Opened Refusal = λ x. and_then (limited x) (λ l. authenticated x (basis_of f l o.now p) (padded password) u.now) in
+      let go : Head → Result Opened Refusal = λ x. and_then (derived f x o.now) (λ b. authenticated x b (padded password) u.now) in
       subst (λ x. Both Narrower (go x) (go k)) (sym below.rest)
-      (both-after Narrower (limited k) _ _ (λ l. authenticated_below k h.tags (basis_of f l o.now p) (padded password) u.now below.tags)))))))
+      (both-after Narrower (derived f k o.now) _ _ (λ b. authenticated_below k h.tags b (padded password) u.now below.tags))))))
 
 pub narrower : (small large : Bytes → Option Tag) → Named small → Named large → Knows small large → (f : Fields) (password : Bytes) (work : ℕ) → Alike (opened small f password work) (opened large f password work)
 narrower small large small_named large_named knows f password work =

@@ -1,5 +1,6 @@
 -- The checks that opening and setting up share: each in its place, with its refusal.
 use Rattle.std.specs.Prelude.{ℕ, ◌/◌, Bool, true, false, cond, not, Some, None, Ok, Err, codes, Option, Result, ◌==◌, nat_lt}
+use Rattle.std.specs.Option.{unwrap_or}
 use Rattle.std.specs.Str.{bytes_eq}
 use Rattle.byte_strings.specs.Bytes.{Bytes}
 use Rattle.filters.specs.declared.tag.Tag.{Tag}
@@ -7,7 +8,7 @@ use Rattle.filters.specs.declared.tag.Tag.TheVariants as tag
 use Rattle.filters.specs.Table.{table_of, bad_entry}
 use Rattle.filters.specs.Lookup.{looked_up, tag_of}
 use Rattle.keys.specs.declared.inputs.Revision.{Revision}
-use Rattle.keys.specs.declared.inputs.Revision.TheVariants.{R2, R3, R4}
+use Rattle.keys.specs.Inputs.{revision_of}
 use Rattle.opening.specs.declared.checks.Version.{Version}
 use Rattle.opening.specs.declared.checks.Version.TheVariants.{V1, V2, V4}
 use Rattle.opening.specs.declared.checks.Head.{Head}
@@ -18,7 +19,6 @@ use Rattle.opening.specs.declared.refusal.Field.{Field}
 use Rattle.opening.specs.declared.refusal.Field.TheVariants.{Filter, V, R, StmF, StrF}
 use Rattle.opening.specs.declared.refusal.Refusal.{Refusal}
 use Rattle.opening.specs.declared.refusal.Refusal.TheVariants.{Missing, NotStandard, OtherV, BadTable, ShortLength, LateR, LongLength, EarlyR}
-use Rattle.opening.specs.Fields.{or_default}
 
 -- refuses where the test holds, and else goes on
 abbrev pub refuse : {A : Type 0} → Bool → Refusal → Result A Refusal → Result A Refusal
@@ -48,11 +48,15 @@ and_then (Err e) go = Err e
 abbrev pub version_of : ℕ → Option Version
 version_of v = cond (v == 1) (Some V1) (cond (v == 2) (Some V2) (cond (v == 4) (Some V4) None))
 
+-- and any other number is refused
+abbrev pub version_from : ℕ → Result Version Refusal
+version_from v = given (version_of v) OtherV (λ version. Ok version)
+
 -- the file key's length in bits: 40 for V 1, Length or 40 for V 2, Length or 128 for V 4
 abbrev pub bit_length : Version → Option ℕ → ℕ
 bit_length V1 n = 40
-bit_length V2 n = or_default n 40
-bit_length V4 n = or_default n 128
+bit_length V2 n = unwrap_or n 40
+bit_length V4 n = unwrap_or n 128
 
 -- and in bytes
 abbrev pub key_length : Version → Option ℕ → ℕ
@@ -97,10 +101,6 @@ admitted series f =
     and_then (tags_of series f version) (λ tags.
     refuse (key_length version f.length == 0) ShortLength (
     Ok (record { version = version; r = r; n = key_length version f.length; tags = tags })))))))
-
--- R from 2 to 4 as a revision
-abbrev pub revision_of : ℕ → Revision
-revision_of r = cond (r == 2) R2 (cond (r == 3) R3 R4)
 
 -- the checks of R and of the key's length
 abbrev pub limited : Head → Result (Revision × ℕ) Refusal

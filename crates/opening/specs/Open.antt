@@ -8,12 +8,12 @@ use Rattle.keys.specs.User.{agrees}
 use Rattle.opening.specs.declared.checks.Head.{Head}
 use Rattle.opening.specs.declared.fields.Fields.{Fields}
 use Rattle.opening.specs.declared.file.File.{File}
-use Rattle.opening.specs.declared.refusal.Field.TheVariants.{O, U, P}
+use Rattle.opening.specs.declared.refusal.Field.TheVariants.{O, U}
 use Rattle.opening.specs.declared.refusal.Refusal.{Refusal}
 use Rattle.opening.specs.declared.refusal.Refusal.TheVariants.{WorkSpace, WrongPassword}
 use Rattle.opening.specs.File.{Opened, read_file}
-use Rattle.opening.specs.Checks.{refuse, need, and_then, admitted, limited}
-use Rattle.opening.specs.Inputs.{basis_of}
+use Rattle.opening.specs.Checks.{refuse, need, and_then, admitted}
+use Rattle.opening.specs.Inputs.{derived}
 use Rattle.opening.specs.Making.{new_file}
 
 -- the check of U, which is the last: the key is filled behind it
@@ -29,9 +29,8 @@ opened series f password work =
     and_then (admitted series f) (λ h.
     need O f.o (λ o.
     need U f.u (λ u.
-    need P f.p (λ p.
-    and_then (limited h) (λ l.
-    authenticated h (basis_of f l o.now p) (padded password) u.now))))))
+    and_then (derived f h o.now) (λ b.
+    authenticated h b (padded password) u.now)))))
 
 -- a call of opening: its answer, and the work area after it
 pub record Opens (series : Bytes → Option Tag) (f : Fields) (password work : Bytes) (r : Result File Refusal) (after : Bytes) : Type 0 where

@@ -1,5 +1,7 @@
--- The number and the layer of each refusal.
+-- The number and the layer of each refusal, and a method's refusal as one of them.
 use Rattle.std.specs.Prelude.{ℕ}
+use Rattle.methods.specs.declared.refusal.MethodRefusal.{MethodRefusal}
+use Rattle.methods.specs.declared.refusal.MethodRefusal.TheVariants as method
 use Rattle.opening.specs.declared.refusal.Refusal.{Refusal}
 use Rattle.opening.specs.declared.refusal.Refusal.TheVariants.{WorkSpace, Missing, NotStandard, OtherV, BadTable, ShortLength, LateR, LongLength, EarlyR, USpace, WrongPassword, Unresolved, KeyLength, Closed, NoSpace, TooShort}
 use Rattle.opening.specs.declared.refusal.Layer.{Layer}
@@ -42,3 +44,8 @@ layer_of KeyLength = Method
 layer_of Closed = Object
 layer_of NoSpace = Object
 layer_of TooShort = Method
+
+-- a method's refusal as one of the refusals of all layers
+abbrev pub lifted : MethodRefusal → Refusal
+lifted method.KeyLength = KeyLength
+lifted method.TooShort = TooShort

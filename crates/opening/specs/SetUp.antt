@@ -8,13 +8,13 @@ use Rattle.keys.specs.User.{user_entry}
 use Rattle.opening.specs.declared.checks.Head.{Head}
 use Rattle.opening.specs.declared.fields.Fields.{Fields}
 use Rattle.opening.specs.declared.file.File.{File}
-use Rattle.opening.specs.declared.refusal.Field.TheVariants.{O, P}
+use Rattle.opening.specs.declared.refusal.Field.TheVariants.{O}
 use Rattle.opening.specs.declared.refusal.Refusal.{Refusal}
 use Rattle.opening.specs.declared.refusal.Refusal.TheVariants.{WorkSpace, USpace}
 use Rattle.opening.specs.File.{Opened, read_file}
-use Rattle.opening.specs.Checks.{refuse, need, and_then, admitted, limited}
+use Rattle.opening.specs.Checks.{refuse, need, and_then, admitted}
 use Rattle.opening.specs.Making.{new_file}
-use Rattle.opening.specs.Inputs.{basis_of}
+use Rattle.opening.specs.Inputs.{derived}
 
 -- what setting up makes: the file, and its U
 pub record Made : Type 0 where
@@ -35,9 +35,8 @@ set_up series f password work space =
     refuse (nat_lt work 32) WorkSpace (
     and_then (admitted series f) (λ h.
     need O f.o (λ o.
-    need P f.p (λ p.
-    and_then (limited h) (λ l.
-    finished h (basis_of f l o.now p) (padded password) space)))))
+    and_then (derived f h o.now) (λ b.
+    finished h b (padded password) space))))
 
 -- the file alone
 abbrev pub made_file : Result Made Refusal → Result Opened Refusal

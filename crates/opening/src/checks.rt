@@ -1,7 +1,7 @@
 // The checks that opening and setting up share, in their order.
 
 ghost use Rattle.std.specs.Prelude.{◌≡◌, ◌≤◌, IfOk};
-ghost use Rattle.opening.specs.Checks.{version_of, key_length, standard, listed_tags, tags_of, admitted, revision_of, limited, limit_of};
+ghost use Rattle.opening.specs.Checks.{version_from, key_length, standard, listed_tags, tags_of, admitted, limited, limit_of};
 
 use crate::fields::Fields;
 use crate::file::Tags;
@@ -10,7 +10,7 @@ use byte_strings::same;
 use filters::lookup::look_up;
 use filters::series::Series;
 use filters::tag::Tag;
-use keys::{KeySize, Revision};
+use keys::{KeySize, Revision, RevisionError};
 
 // V: which algorithms protect the file.
 #[derive(Clone, Copy)]
@@ -20,18 +20,22 @@ pub enum Version {
     V4,
 }
 
-impl Version {
-    fn from_number(v: u8) -> Option<Version>
-        ensures { result ≡ version_of v }
-    {
+impl TryFrom<u8> for Version {
+    type Error = Refusal;
+
+    ghost try_from_gives = { λ v version. version ≡ version_from v };
+
+    fn try_from(v: u8) -> Result<Version, Refusal> {
         match v {
-            1 => Some(Version::V1),
-            2 => Some(Version::V2),
-            4 => Some(Version::V4),
-            _ => None,
+            1 => Ok(Version::V1),
+            2 => Ok(Version::V2),
+            4 => Ok(Version::V4),
+            _ => Err(Refusal::OtherV),
         }
     }
+}
 
+impl Version {
     // The file key's length in bytes: an eighth of Length, the remainder dropped.
     fn key_length(self, length: Option<u16>) -> usize
         ensures { result ≡ key_length self length }
@@ -41,7 +45,7 @@ impl Version {
             Version::V2 => length.unwrap_or(40),
             Version::V4 => length.unwrap_or(128),
         };
-        (bits / 8) as usize
+        usize::from(bits / 8)
     }
 }
 
@@ -49,6 +53,7 @@ impl Version {
 #[derive(Clone, Copy)]
 pub struct Head {
     pub(crate) version: Version,
+    // Stays a number: it is judged only by `limit`, behind the tags and the length.
     pub(crate) r: u8,
     pub(crate) n: usize,
     pub(crate) tags: Tags,
@@ -117,9 +122,7 @@ pub(crate) fn admit<S: Series>(series: &S, fields: &Fields) -> Result<Head, Refu
     let Some(r) = fields.r else {
         return Err(Refusal::Missing(Field::R));
     };
-    let Some(version) = Version::from_number(v) else {
-        return Err(Refusal::OtherV);
-    };
+    let version = Version::try_from(v)?;
     let tags = tags(series, fields, version)?;
     let n = version.key_length(fields.length);
     if n == 0 {
@@ -133,33 +136,15 @@ pub(crate) fn admit<S: Series>(series: &S, fields: &Fields) -> Result<Head, Refu
     })
 }
 
-// R from 2 to 4.
-fn revision(r: u8) -> Revision
-    ensures { result ≡ revision_of r }
-{
-    match r {
-        2 => Revision::R2,
-        3 => Revision::R3,
-        _ => Revision::R4,
-    }
-}
-
 // The checks of R and of the key's length.
 pub(crate) fn limit(head: Head) -> Result<Limits, Refusal>
     requires { 1 ≤ head.n }
     ensures { limit_of result ≡ limited head }
 {
-    if head.r > 4 {
-        return Err(Refusal::LateR);
+    match (Revision::try_from(head.r), KeySize::new(head.n)) {
+        (Err(RevisionError::TooHigh), _) => Err(Refusal::LateR),
+        (_, None) => Err(Refusal::LongLength),
+        (Err(RevisionError::TooLow), _) => Err(Refusal::EarlyR),
+        (Ok(revision), Some(size)) => Ok(Limits { revision, size }),
     }
-    let Some(size) = KeySize::new(head.n) else {
-        return Err(Refusal::LongLength);
-    };
-    if head.r < 2 {
-        return Err(Refusal::EarlyR);
-    }
-    Ok(Limits {
-        revision: revision(head.r),
-        size,
-    })
 }

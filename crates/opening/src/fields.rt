@@ -32,9 +32,6 @@ impl Fields<'_> {
     pub fn encrypts_metadata(&self) -> bool
         ensures { result ≡ or_yes self.now.encrypt_metadata }
     {
-        match self.encrypt_metadata {
-            Some(yes) => yes,
-            None => true,
-        }
+        self.encrypt_metadata.unwrap_or(true)
     }
 }

@@ -5,14 +5,14 @@ ghost use Rattle.keys.specs.File.{read};
 ghost use Rattle.opening.specs.File.{read_file};
 ghost use Rattle.opening.specs.Open.{authenticated, opened, Opens};
 
-use crate::checks::{Head, admit, limit};
+use crate::checks::{Head, admit};
 use crate::fields::Fields;
 use crate::file::File;
 use crate::inputs::key_inputs;
 use crate::refusal::{Field, Refusal};
-use crate::work::WorkArea;
+use crate::work::{WorkArea, padded};
 use filters::series::Series;
-use keys::{Inputs, agrees_with, file_key, pad_password};
+use keys::{Inputs, agrees_with, file_key};
 
 // The file, if U agrees with the padded password.
 fn authenticate(head: Head, inputs: &Inputs, padded: &[u8], u: &[u8]) -> Result<File, Refusal>
@@ -34,9 +34,7 @@ fn open_in<S: Series>(
 ) -> Result<File, Refusal>
     ensures { read_file result ≡ opened (S.meaning series.now) fields.now password.now (length area.old) }
 {
-    let Some(n) = pad_password(password, area) else {
-        return Err(Refusal::WorkSpace);
-    };
+    let padded = padded(password, area)?;
     let head = admit(series, fields)?;
     let Some(o) = fields.o else {
         return Err(Refusal::Missing(Field::O));
@@ -44,12 +42,8 @@ fn open_in<S: Series>(
     let Some(u) = fields.u else {
         return Err(Refusal::Missing(Field::U));
     };
-    let Some(p) = fields.p else {
-        return Err(Refusal::Missing(Field::P));
-    };
-    let limits = limit(head)?;
-    let inputs = key_inputs(fields, limits, o, p);
-    authenticate(head, &inputs, &area[0..n], u)
+    let inputs = key_inputs(fields, head, o)?;
+    authenticate(head, &inputs, padded, u)
 }
 
 // Opens a file with the user password. The work area, of 32 bytes or more, is all zero afterwards.

@@ -1,7 +1,9 @@
 // Why a call says no: one enum for all layers, each case with its number.
 
 ghost use Rattle.std.specs.Prelude.{◌≡◌};
-ghost use Rattle.opening.specs.Refusal.{number_of, layer_of};
+ghost use Rattle.opening.specs.Refusal.{number_of, layer_of, lifted};
+
+use methods::refusal::MethodRefusal;
 
 // A field of the encryption dictionary without which no file opens.
 #[derive(Clone, Copy, PartialEq, Eq)]
@@ -66,6 +68,7 @@ pub enum Refusal {
 
 impl Refusal {
     // The refusal's number.
+    // Stays a match: two cases carry a value, so no cast gives a number, and the format asks for these.
     pub fn number(&self) -> u8
         ensures { result ≡ number_of self.now }
     {
@@ -107,6 +110,18 @@ impl Refusal {
             | Refusal::WrongPassword => Layer::File,
             Refusal::Unresolved | Refusal::Closed | Refusal::NoSpace => Layer::Object,
             Refusal::KeyLength | Refusal::TooShort => Layer::Method,
+        }
+    }
+}
+
+// A method's refusal as the caller sees it.
+impl From<MethodRefusal> for Refusal {
+    ghost from_gives = { λ refusal own. own ≡ lifted refusal };
+
+    fn from(refusal: MethodRefusal) -> Refusal {
+        match refusal {
+            MethodRefusal::KeyLength => Refusal::KeyLength,
+            MethodRefusal::TooShort => Refusal::TooShort,
         }
     }
 }

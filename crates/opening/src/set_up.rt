@@ -1,38 +1,27 @@
 // Setting up: a new file, and the U by which it opens.
 
-ghost use Rattle.std.specs.Prelude.{◌≤◌, length};
-ghost use Rattle.byte_strings.specs.Bytes.{Writes};
+ghost use Rattle.std.specs.Prelude.{length};
 ghost use Rattle.keys.specs.File.{read};
-ghost use Rattle.keys.specs.Key.{key_of};
-ghost use Rattle.keys.specs.User.{user_entry};
 ghost use Rattle.opening.specs.SetUp.{finished, set_up, Makes, SetsUp};
 
-use crate::checks::{Head, admit, limit};
+use crate::checks::{Head, admit};
 use crate::fields::Fields;
 use crate::file::File;
 use crate::inputs::key_inputs;
 use crate::refusal::{Field, Refusal};
-use crate::work::WorkArea;
+use crate::work::{WorkArea, padded};
 use filters::series::Series;
-use keys::{Inputs, Key, Revision, file_key, pad_password, user_entry};
-
-// Writes U to the front of its buffer.
-fn write_user_entry(revision: Revision, id: &[u8], key: &Key, out: &mut [u8])
-    requires { 32 ≤ length out.old }
-    ensures { Writes (user_entry revision id.now (key_of key.now)) out.old out.new }
-{
-    out[0..32].copy_from_slice(&user_entry(revision, id, key));
-}
+use keys::{Inputs, file_key, user_entry};
 
 // The file under the padded password, and its U in the buffer, if that has space for it.
 fn finish(head: Head, inputs: &Inputs, padded: &[u8], out: &mut [u8]) -> Result<File, Refusal>
     ensures { Makes (finished head (read inputs.now) padded.now (length out.old)) result out.old out.new }
 {
-    if out.len() < 32 {
+    let Some(front) = out.first_chunk_mut::<32>() else {
         return Err(Refusal::USpace);
-    }
+    };
     let key = file_key(inputs, padded);
-    write_user_entry(inputs.revision, inputs.id, &key, out);
+    *front = user_entry(inputs.revision, inputs.id, &key);
     Ok(File::new(head, &key))
 }
 
@@ -46,19 +35,13 @@ fn set_up_in<S: Series>(
 ) -> Result<File, Refusal>
     ensures { Makes (set_up (S.meaning series.now) fields.now password.now (length area.old) (length out.old)) result out.old out.new }
 {
-    let Some(n) = pad_password(password, area) else {
-        return Err(Refusal::WorkSpace);
-    };
+    let padded = padded(password, area)?;
     let head = admit(series, fields)?;
     let Some(o) = fields.o else {
         return Err(Refusal::Missing(Field::O));
     };
-    let Some(p) = fields.p else {
-        return Err(Refusal::Missing(Field::P));
-    };
-    let limits = limit(head)?;
-    let inputs = key_inputs(fields, limits, o, p);
-    finish(head, &inputs, &area[0..n], out)
+    let inputs = key_inputs(fields, head, o)?;
+    finish(head, &inputs, padded, out)
 }
 
 // Sets a file up under the user password, and writes its U, 32 bytes. The fields' own U plays no part. The work area,

@@ -1,7 +1,12 @@
 // The lent work area.
 
-ghost use Rattle.std.specs.Prelude.{◌≡◌, length};
+ghost use Rattle.std.specs.Prelude.{◌≡◌, ◌<◌, ◌≤◌, length, MatchResult};
 ghost use Rattle.byte_strings.specs.Bytes.{zeros};
+ghost use Rattle.keys.specs.Password.{padded};
+ghost use Rattle.opening.specs.declared.refusal.Refusal.TheVariants.{WorkSpace};
+
+use crate::refusal::Refusal;
+use keys::pad_password;
 
 // Holds the lent bytes while the padded password stands in them. They are all zero once it ends, however that is.
 pub struct WorkArea<'a> {
@@ -15,4 +20,14 @@ impl Drop for WorkArea<'_> {
         self.bytes.fill(0);
         let WorkArea { bytes: _ } = self;
     }
+}
+
+// The padded password, which is left at the front of the area.
+pub(crate) fn padded<'a>(password: &[u8], area: &'a mut [u8]) -> Result<&'a [u8], Refusal>
+    ensures { MatchResult result (λ p. (32 ≤ length area.old) × (p.now ≡ padded password.now)) (λ e. (length area.old < 32) × (e ≡ WorkSpace)) }
+{
+    let Some(n) = pad_password(password, area) else {
+        return Err(Refusal::WorkSpace);
+    };
+    Ok(&area[0..n])
 }

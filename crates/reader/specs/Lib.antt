@@ -1,5 +1,4 @@
 -- What protecting, restoring and the calls on a run answer.
-pub mod Output
 pub mod Key
 pub mod Tag
 pub mod Space

@@ -1,5 +1,6 @@
 -- What starting a run and the calls on it answer.
 use Rattle.std.specs.Prelude.{◌≡◌, ℕ, ◌<◌, ◌≤◌, Bool, true, false, [], length, Some, None, Ok, Err, Option, Result}
+use Rattle.std.specs.Option.{option_map}
 use Rattle.byte_strings.specs.Bytes.{Bytes, Writes}
 use Rattle.methods.specs.Running.{Residual}
 use Rattle.methods.specs.Running as running
@@ -8,8 +9,6 @@ use Rattle.opening.specs.declared.refusal.Refusal.TheVariants.{KeyLength, NoSpac
 use Rattle.opening.specs.declared.refusal.Refusal.TheVariants as refusal
 use Rattle.reader.specs.declared.output.Mark.{Mark}
 use Rattle.reader.specs.declared.output.Output.{Output}
-use Rattle.reader.specs.declared.run.Phase.{Phase}
-use Rattle.reader.specs.declared.run.Phase.TheVariants.{Open, Closed}
 use Rattle.reader.specs.declared.run.Run.{Run}
 use Rattle.reader.specs.declared.run.Event.{Event}
 use Rattle.reader.specs.declared.run.Event.TheVariants.{Feed, Close}
@@ -19,12 +18,8 @@ pub record Standing : Type 0 where
   pub rest : Option Residual
   pub mark : Mark
 
-abbrev pub rest_of : {S : Type 0} → (S → Residual) → Phase S → Option Residual
-rest_of means (Open s) = Some (means s)
-rest_of means Closed = None
-
 abbrev pub standing : {S : Type 0} → (S → Residual) → Run S → Standing
-standing means a = record { rest = rest_of means a.phase; mark = a.mark }
+standing means a = record { rest = option_map means a.state; mark = a.mark }
 
 -- a run that was accepted: the key is admitted, and the whole restoring is still to do
 abbrev pub Fresh : Bool → Residual → Mark → Standing → Type 0

@@ -1,9 +1,4 @@
 // What restoring answers.
-ghost use Rattle.std.specs.Prelude.{◌≡◌};
-ghost use Rattle.reader.specs.Output.{lifted};
-
-use methods::refusal::MethodRefusal;
-use opening::refusal::Refusal;
 
 // How bytes came back: restored by a method, or passed on as they were since the filter is unresolved.
 #[derive(Clone, Copy)]
@@ -17,14 +12,4 @@ pub enum Mark {
 pub struct Output {
     pub mark: Mark,
     pub count: usize,
-}
-
-// A method's refusal as the caller sees it.
-pub(crate) fn lift(refusal: MethodRefusal) -> Refusal
-    ensures { result ≡ lifted refusal }
-{
-    match refusal {
-        MethodRefusal::KeyLength => Refusal::KeyLength,
-        MethodRefusal::TooShort => Refusal::TooShort,
-    }
 }

@@ -1,23 +1,17 @@
 // A restoring in pieces: a run is open until a closing is accepted, and closed from then on.
 ghost use Rattle.std.specs.Prelude.{◌≡◌};
 ghost use Rattle.methods.specs.Running.{told};
-ghost use Rattle.reader.specs.declared.run.Event.TheVariants.{Close};
-ghost use Rattle.reader.specs.Run.{standing, asked, Fed, Shut, Called, Kept, counted};
+ghost use Rattle.reader.specs.Run.{standing, asked, Fed, Shut, Called, Kept};
 
-use crate::output::{Mark, Output, lift};
+use crate::output::{Mark, Output};
 use crate::space::check_space;
 use methods::running::Running;
 use opening::refusal::Refusal;
 
 #[derive(Drop)]
-pub enum Phase<S> {
-    Open(S),
-    Closed,
-}
-
-#[derive(Drop)]
 pub struct Run<S> {
-    pub(crate) phase: Phase<S>,
+    // none once a closing is accepted
+    pub(crate) state: Option<S>,
     pub(crate) mark: Mark,
 }
 
@@ -28,53 +22,26 @@ enum Event<'a> {
     Close,
 }
 
-impl<'a> Event<'a> {
-    fn closing() -> Self
-        ensures { result ≡ Close }
-    {
-        Event::Close
-    }
-}
-
-// The count of an accepted call.
-fn count_of(answer: Result<Output, Refusal>) -> Result<usize, Refusal>
-    ensures { result ≡ counted answer }
-{
-    match answer {
-        Ok(output) => Ok(output.count),
-        Err(refusal) => Err(refusal),
-    }
-}
-
 impl<S: Running> Run<S> {
     // The length that feeding a piece of length `n` would hand out; none on a closed run, or above the largest `usize`.
     pub fn feed_len(&self, n: usize) -> Option<usize>
         ensures { result ≡ asked (standing S.Running.means self.now) (λ q. told (q.hands n)) }
     {
-        match &self.phase {
-            Phase::Open(s) => s.feed_len(n),
-            Phase::Closed => None,
-        }
+        self.state.as_ref()?.feed_len(n)
     }
 
     // The space that closing now asks for; none as above.
     pub fn close_len(&self) -> Option<usize>
         ensures { result ≡ asked (standing S.Running.means self.now) (λ q. told q.closing) }
     {
-        match &self.phase {
-            Phase::Open(s) => s.close_len(),
-            Phase::Closed => None,
-        }
+        self.state.as_ref()?.close_len()
     }
 
     // The space that closing will ask for once a piece of length `n` is fed; none as above.
     pub fn close_len_after(&self, n: usize) -> Option<usize>
         ensures { result ≡ asked (standing S.Running.means self.now) (λ q. told (q.later n)) }
     {
-        match &self.phase {
-            Phase::Open(s) => s.close_len_after(n),
-            Phase::Closed => None,
-        }
+        self.state.as_ref()?.close_len_after(n)
     }
 
     // Takes a piece in, hands out bytes into the front of `out`, and answers their number.
@@ -82,7 +49,8 @@ impl<S: Running> Run<S> {
         ensures fed { Fed (standing S.Running.means self.old) piece.now out.old result (standing S.Running.means self.new) out.new }
         ensures kept { Kept self.old result self.new }
     {
-        count_of(self.call(Event::Feed(piece), out))
+        self.call(Event::Feed(piece), out)
+            .map(|output| output.count)
     }
 
     // Hands out the rest. The run is closed from then on, unless this is refused.
@@ -90,7 +58,7 @@ impl<S: Running> Run<S> {
         ensures shut { Shut (standing S.Running.means self.old) out.old result (standing S.Running.means self.new) out.new }
         ensures kept { Kept self.old result self.new }
     {
-        self.call(Event::closing(), out)
+        self.call(Event::Close, out)
     }
 
     // What happens hangs on the state and the event together.
@@ -99,22 +67,18 @@ impl<S: Running> Run<S> {
         ensures kept { Kept self.old result self.new }
     {
         let mark = self.mark;
-        match (&mut self.phase, event) {
-            (Phase::Closed, _) => Err(Refusal::Closed),
-            (Phase::Open(s), Event::Feed(piece)) => {
+        match (&mut self.state, event) {
+            (None, _) => Err(Refusal::Closed),
+            (Some(s), Event::Feed(piece)) => {
                 check_space(s.feed_len(piece.len()), out.len())?;
                 let count = s.feed(piece, out);
                 Ok(Output { mark, count })
             }
-            (Phase::Open(s), Event::Close) => {
+            (Some(s), Event::Close) => {
                 check_space(s.close_len(), out.len())?;
-                match s.close(out) {
-                    Ok(count) => {
-                        self.phase = Phase::Closed;
-                        Ok(Output { mark, count })
-                    }
-                    Err(refusal) => Err(lift(refusal)),
-                }
+                let count = s.close(out)?;
+                self.state = None;
+                Ok(Output { mark, count })
             }
         }
     }

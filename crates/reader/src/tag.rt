@@ -7,6 +7,7 @@ use filters::tag::Tag;
 use tagged::tag::DecryptorTag;
 
 // The method of a tag.
+// Stays a function, and no From: neither type is this crate's, and an unresolved tag has a method, too.
 pub(crate) fn method_of(tag: Option<Tag>) -> DecryptorTag
     ensures { result ≡ method_for tag }
 {

@@ -17,10 +17,10 @@ pub struct Both {
 }
 
 // The second series knows every text that the first knows.
-fn second_knows_more<M: CryptMethod>() -> u8
+fn second_knows_more<M: CryptMethod>()
     ensures { OpensMore M.CryptMethod.scheme }
 {
-    promises::<Series1, Series2, M>()
+    promises::<Series1, Series2, M>();
 }
 
 // Opens in the first series and in the second.

@@ -1,9 +1,0 @@
--- The padded password is what was written to the area's front.
-use Rattle.std.proofs.Common.{rules}
-use Rattle.opening.proofs.Padding.{padded-front}
-use Rattle.opening.proofs.set_up.set_up_in.Goals as goal
-
-pub returns : goal.returns
-returns g c =
-    let p = padded-front c.args.password.now c.args.area.now _ _ c.in-Some.ensures.1 c.in-Some.ensures.2 in
-    record { result = search rules; wrote = search rules }
