@@ -9,12 +9,12 @@ ghost use Rattle.aes.specs.CipherLaws.{rijndael_invertible};
 
 mod block_cipher;
 mod cipher;
+mod direction;
 mod field;
 mod keys;
 mod sbox;
 mod state;
 mod tables;
-mod words;
 
 pub use block_cipher::BlockCipher;
 pub use field::inv_mix_column;
