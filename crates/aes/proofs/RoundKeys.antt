@@ -2,20 +2,13 @@
 use Rattle.std.proofs.Common.{◌≡◌, ℕ, zero, suc, ◌+◌, ◌*◌, ◌/◌, ◌%◌, ◌<◌, ◌≤◌, List, [], ◌∷◌, ◌++◌, length, get_or, take, drop, sym, ap, ◌∙◌, zero-add, arith}
 use lib.Bits.{bit_xor}
 use Rattle.std.specs.Simd.{first_chunks}
-use Rattle.std.proofs.lemmas.List.{get_or-take, get_or-drop, take-take, length_push}
+use Rattle.std.proofs.lemmas.List.{get_or-take, take-take, length_push}
 use Rattle.std.proofs.Math.Seq.{get_or-append_seam, take-append_seam}
 use Rattle.std.proofs.lemmas.Grind.{get_or_after_one}
 use Rattle.byte_strings.specs.Bytes.{Bytes}
 use Rattle.aes.specs.State.{add_round_key}
 use Rattle.aes.specs.StateLaws.{block_same}
-
--- word c of chunk n
-chunk_at : (w : List Bytes) (k n c : ℕ) → n < k → c < 4 → get_or (get_or (first_chunks 4 k w) n []) c [] ≡ get_or w (n * 4 + c) []
-chunk_at w zero n c h l = absurd (omega arith)
-chunk_at w (suc k) zero c h l = get_or-take 4 w c [] l ∙ ap (λ i. get_or w i []) (sym (zero-add c))
-chunk_at w (suc k) (suc n) c h l =
-    let e : 4 + (n * 4 + c) ≡ suc n * 4 + c = omega arith in
-    chunk_at (drop 4 w) k n c (omega arith) l ∙ get_or-drop 4 w (n * 4 + c) [] ∙ ap (λ i. get_or w i []) e
+use Rattle.aes.proofs.Chunks.{chunk_at}
 
 module _ (w : List Bytes) (keys : List (List Bytes)) (e : keys ≡ first_chunks 4 (length w / 4) w) where
   pub key_of : (n : ℕ) (s : Bytes) → n < length w / 4 → add_round_key (get_or keys n []) 0 s ≡ add_round_key w n s
@@ -23,7 +16,7 @@ module _ (w : List Bytes) (keys : List (List Bytes)) (e : keys ≡ first_chunks 
   key_of n s h =
       block_same (λ i. bit_xor (get_or s i 0) (get_or (get_or (get_or keys n []) (0 * 4 + i / 4) []) (i % 4) 0)) (λ i. bit_xor (get_or s i 0) (get_or (get_or w (n * 4 + i / 4) []) (i % 4) 0))
       (λ i l. ap (λ x. bit_xor (get_or s i 0) (get_or x (i % 4) 0))
-      (ap (λ j. get_or (get_or keys n []) j []) (zero-add (i / 4)) ∙ ap (λ ks. get_or (get_or ks n []) (i / 4) []) e ∙ chunk_at w (length w / 4) n (i / 4) h (omega arith)))
+      (ap (λ j. get_or (get_or keys n []) j []) (zero-add (i / 4)) ∙ ap (λ ks. get_or (get_or ks n []) (i / 4) []) e ∙ chunk_at [] w (length w / 4) n (i / 4) h (omega arith)))
 
   -- a key of those behind the first
   pub middle_key : (m i : ℕ) (s : Bytes) → i < m → i + 1 < length w / 4 → add_round_key (get_or (take m (drop 1 keys)) i []) 0 s ≡ add_round_key w (i + 1) s
