@@ -1,7 +1,8 @@
 // Key expansion, and the schedule of the equivalent inverse cipher.
-ghost use Rattle.std.specs.Prelude.{◌≡◌, ◌-◌, ◌*◌, ◌<◌, ◌≤◌, length, slice_index};
+ghost use Rattle.std.specs.Prelude.{◌≡◌, ℕ, ◌-◌, ◌*◌, ◌<◌, ◌≤◌, [], length, slice_index, slice_index_or};
+ghost use Rattle.aes.specs.State.{inv_mix_column};
 ghost use Rattle.aes.specs.Sbox.{sbox};
-ghost use Rattle.aes.specs.Keys.{power_of_x, word, mask, next_word, extended, key_words, Words, inverse_word, inverse_schedule};
+ghost use Rattle.aes.specs.Keys.{power_of_x, word, mask, next_word, extended, key_words, Words, inverse_schedule};
 
 use crate::field::inv_mix_column;
 use crate::sbox::sub_byte;
@@ -61,29 +62,23 @@ fn expanded<const N: usize>(key: &[u8], nk: usize) -> [[u8; 4]; N]
     w
 }
 
-// Word i of the inverse schedule.
-fn inverse_word(w: &[[u8; 4]], i: usize) -> [u8; 4]
-    requires { i < length w.now }
-    ensures { result ≡ inverse_word w.now i }
+// Takes each word through InvMixColumns.
+fn inv_mix_words(words: &mut [[u8; 4]])
+    ensures { (k : ℕ) → k < length words.old → slice_index_or words.new k [] ≡ inv_mix_column (slice_index_or words.old k []) }
 {
-    let word = w[i];
-    if i < 4 || w.len() - i <= 4 {
-        word
-    } else {
-        inv_mix_column(&word)
+    for word in words.iter_mut() {
+        *word = inv_mix_column(word);
     }
 }
 
-// The inverse schedule of w.
-fn inverted<const N: usize>(w: &[[u8; 4]]) -> [[u8; 4]; N]
-    requires { length w.now ≡ N }
+// The inverse schedule of w: the first and the last round key stay.
+fn inverted<const N: usize>(w: &[[u8; 4]; N]) -> [[u8; 4]; N]
+    requires { 8 ≤ N }
     ensures { result ≡ inverse_schedule w.now }
 {
-    // Stays a loop over the index: at a length that is a parameter, `from_fn` doesn't say which `w` its closure reads.
-    let mut out = [[0; 4]; N];
-    for i in 0..N {
-        out[i] = inverse_word(w, i);
-    }
+    let mut out = *w;
+    let words = &mut out[..];
+    inv_mix_words(&mut words[4..N - 4]);
     out
 }
 
@@ -99,11 +94,11 @@ pub(crate) struct Schedule<const N: usize> {
 impl<const N: usize> Schedule<N> {
     // The schedule of a key of nk words.
     pub(crate) fn new(key: &[u8], nk: usize) -> Schedule<N>
-        requires { (length key.now ≡ nk * 4) × ((0 < nk) × ((nk ≤ N) × (N ≤ 11 * nk))) }
+        requires { (length key.now ≡ nk * 4) × ((0 < nk) × ((nk ≤ N) × ((8 ≤ N) × (N ≤ 11 * nk)))) }
         ensures { result.words ≡ extended nk (N - nk) (key_words nk key.now) }
     {
         let words = expanded::<N>(key, nk);
-        let inverse = inverted::<N>(&words);
+        let inverse = inverted(&words);
         Schedule { words, inverse }
     }
 }

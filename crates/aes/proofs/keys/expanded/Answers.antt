@@ -1,5 +1,5 @@
 -- The key's words; one word of the schedule more, and all of them.
-use Rattle.std.proofs.Common.{◌≡◌, ◌-◌, ◌/◌, ◌≤◌, length, take, drop, sym, refl, ap, ◌∙◌, arith, rules, length-append, length-drop, List, ℕ, ◌++◌, replicate, [], ◌∷◌}
+use Rattle.std.proofs.Common.{◌≡◌, ◌-◌, ◌/◌, ◌≤◌, length, take, drop, sym, refl, ap, ◌∙◌, arith, rules, length-append, length-drop, List, ◌++◌, replicate, [], ◌∷◌}
 use Rattle.std.proofs.lemmas.List.{take_all, length-replicate}
 use Rattle.std.proofs.Math.Seq.{take-append_seam}
 use Rattle.std.specs.Simd.{first_chunks}
@@ -18,7 +18,7 @@ loop-i-init g c =
     let nk : length c.args.key.now / 4 ≡ c.args.nk = omega arith in
     let e : front ≡ first_chunks 4 c.args.nk c.args.key.now = c.copy_from_slice.ensures.after ∙ c.as_chunks.ensures.front ∙ ap (λ n. first_chunks 4 n c.args.key.now) nk in
     let l : length front ≡ c.args.nk = ap length e ∙ length_chunks c.args.nk c.args.key.now in (
-      omega (arith, length-append front rest, length-drop c.args.nk zeros, length-replicate g.row.N zero, l, c.requires.2),
+      omega (arith, length-append front rest, length-drop c.args.nk zeros, length-replicate g.row.N zero, l, c.requires.1),
       ap (λ n. take n (front ++ rest)) (sym l) ∙ take-append_seam front rest ∙ e ∙ words_are_chunks c.args.nk c.args.key.now (omega arith)
           ∙ extended_none c.args.nk c.args.nk (key_words c.args.nk c.args.key.now) refl,
     )
