@@ -1,6 +1,8 @@
 -- Four words of a state, each with its word of the round key added.
-use Rattle.std.proofs.Common.{◌≡◌, ℕ, Bool, true, false, List, [], ◌∷◌, ◌++◌, get_or, refl, ap₂}
+use Rattle.std.proofs.Common.{◌≡◌, ℕ, ◌+◌, ◌*◌, ◌<◌, Bool, true, false, List, [], ◌∷◌, ◌++◌, get_or, refl, ap₂, ◌∙◌, lit<}
 use Rattle.byte_strings.specs.Bytes.{Bytes}
+use Rattle.std.specs.Simd.{first_chunks}
+use Rattle.aes.proofs.Chunks.{chunk_at}
 use Rattle.aes.specs.State.{sub_bytes, inv_sub_bytes, shift_rows, inv_shift_rows, mix_columns, inv_mix_columns, add_round_key}
 use Rattle.aes.specs.Words.{added, mixed}
 use Rattle.aes.specs.Directions.{substituted, shifted, columns_mixed, columns, column_mixed, column_substituted}
@@ -39,9 +41,15 @@ module _ (key : List Bytes) (u : Bytes) where
   last_words false = same_sixteen
   last_words true = same_sixteen
 
-  pub first_words : {a b c d : Bytes}
-      → a ≡ added (get_or u 0 0) (get_or u 1 0) (get_or u 2 0) (get_or u 3 0) (get_or key 0 []) → b ≡ added (get_or u 4 0) (get_or u 5 0) (get_or u 6 0) (get_or u 7 0) (get_or key 1 [])
-      → c ≡ added (get_or u 8 0) (get_or u 9 0) (get_or u 10 0) (get_or u 11 0) (get_or key 2 []) → d ≡ added (get_or u 12 0) (get_or u 13 0) (get_or u 14 0) (get_or u 15 0) (get_or key 3 [])
-      → joins a b c d ≡ add_round_key key 0 u
+  -- the columns as chunks of the block
+  abbrev plain : ℕ → Bytes
+  plain i = let c : Bytes = get_or (first_chunks 4 4 u) i [] in added (get_or c 0 0) (get_or c 1 0) (get_or c 2 0) (get_or c 3 0) (get_or key i [])
+
+  plain_is : (i : ℕ) → i < 4 → plain i ≡ added (get_or u (i * 4 + 0) 0) (get_or u (i * 4 + 1) 0) (get_or u (i * 4 + 2) 0) (get_or u (i * 4 + 3) 0) (get_or key i [])
+  plain_is i h =
+      let at : (j : ℕ) → j < 4 → get_or (get_or (first_chunks 4 4 u) i []) j 0 ≡ get_or u (i * 4 + j) 0 = λ j l. chunk_at 0 u 4 i j h l in
+      ap₂ (λ (x : ℕ × ℕ) (y : ℕ × ℕ). added x.0 x.1 y.0 y.1 (get_or key i [])) (ap₂ (λ a b. (a, b)) (at 0 (lit< tt)) (at 1 (lit< tt))) (ap₂ (λ a b. (a, b)) (at 2 (lit< tt)) (at 3 (lit< tt)))
+
+  pub first_words : {a b c d : Bytes} → a ≡ plain 0 → b ≡ plain 1 → c ≡ plain 2 → d ≡ plain 3 → joins a b c d ≡ add_round_key key 0 u
   unfolding added add_round_key
-  first_words = same_joins
+  first_words e f g h = same_joins (e ∙ plain_is 0 (lit< tt)) (f ∙ plain_is 1 (lit< tt)) (g ∙ plain_is 2 (lit< tt)) (h ∙ plain_is 3 (lit< tt))

@@ -1,5 +1,5 @@
 // The state as four words, one for each column, and the rounds on it.
-ghost use Rattle.std.specs.Prelude.{◌≡◌, ◌*◌, ◌+◌, ◌<◌, slice_index};
+ghost use Rattle.std.specs.Prelude.{◌≡◌, slice_index};
 ghost use Rattle.aes.specs.Directions.{substituted, shifted, columns_mixed, column_mixed, column_substituted};
 ghost use Rattle.aes.specs.State.{add_round_key};
 ghost use Rattle.aes.specs.Words.{bytes_of, unpacked, added};
@@ -9,28 +9,23 @@ use crate::direction::Direction;
 // The four words of a round key.
 pub(crate) type RoundKey = [[u8; 4]; 4];
 
-// Column i of the block, with a key's word added.
-fn first_column(block: &[u8; 16], i: usize, key: &[u8; 4]) -> u32
-    requires { i < 4 }
-    ensures { bytes_of result ≡ added (slice_index block.now (i * 4)) (slice_index block.now (i * 4 + 1)) (slice_index block.now (i * 4 + 2)) (slice_index block.now (i * 4 + 3)) key.now }
+// A column with a key's word added.
+fn first_column(bytes: &[u8; 4], key: &[u8; 4]) -> u32
+    ensures { bytes_of result ≡ added (slice_index bytes.now 0) (slice_index bytes.now 1) (slice_index bytes.now 2) (slice_index bytes.now 3) key.now }
 {
-    u32::from_le_bytes([
-        block[i * 4],
-        block[i * 4 + 1],
-        block[i * 4 + 2],
-        block[i * 4 + 3],
-    ]) ^ u32::from_le_bytes(*key)
+    u32::from_le_bytes(*bytes) ^ u32::from_le_bytes(*key)
 }
 
 // Only adds the round key.
 pub(crate) fn first_round(key: &RoundKey, block: &[u8; 16]) -> [u32; 4]
     ensures { unpacked result ≡ add_round_key key.now 0 block.now }
 {
+    let (columns, _) = block.as_chunks();
     [
-        first_column(block, 0, &key[0]),
-        first_column(block, 1, &key[1]),
-        first_column(block, 2, &key[2]),
-        first_column(block, 3, &key[3]),
+        first_column(&columns[0], &key[0]),
+        first_column(&columns[1], &key[1]),
+        first_column(&columns[2], &key[2]),
+        first_column(&columns[3], &key[3]),
     ]
 }
 
