@@ -1,10 +1,9 @@
 -- The equivalent inverse cipher, under the inverse schedule, is the inverse cipher.
-use Rattle.std.proofs.Common.{◌≡◌, ℕ, zero, suc, ◌+◌, ◌-◌, ◌*◌, ◌/◌, ◌%◌, ◌<◌, ◌≤◌, Bool, true, false, cond, ◌||◌, ltb, leb, List, [], ◌∷◌, ◌++◌, map, length, get_or, take, set, sym, refl, ap, ◌∙◌, ap₂, zero-add, arith}
+use Rattle.std.proofs.Common.{◌≡◌, ℕ, zero, suc, ◌+◌, ◌-◌, ◌*◌, ◌/◌, ◌%◌, ◌<◌, ◌≤◌, Bool, true, false, cond, ◌||◌, ltb, leb, List, [], ◌++◌, length, get_or, take, drop, sym, refl, ap, ◌∙◌, ap₂, ⊎_elim, zero-add, arith, length-append, length-drop}
 use lib.Bits.{bit_xor}
-use Rattle.std.specs.List.{range_with_len}
-use Rattle.std.proofs.lemmas.List.FromFn.{get_or-map-range_with_len, length-map-range_with_len, map-range_with_len_more}
-use Rattle.std.proofs.lemmas.List.{take_more_set, take_all}
-use Rattle.std.proofs.lemmas.Bool.{lt-ltb, le-ltb, le-leb, lt-leb}
+use Rattle.std.proofs.lemmas.List.FromFn.{get_or-map-range_with_len, length-map-range_with_len, fill_by_all}
+use Rattle.std.proofs.lemmas.List.{get_or-take, get_or-drop, get_or_append_left, get_or-append_right, length-take-le}
+use Rattle.std.proofs.lemmas.Bool.{cases_lt, lt-ltb, le-ltb, le-leb, lt-leb}
 use Rattle.byte_strings.specs.Bytes.{Bytes}
 use Rattle.aes.specs.BlockCipher.{Block}
 use Rattle.aes.specs.Field.{product}
@@ -14,16 +13,6 @@ use Rattle.aes.specs.Keys.{Words, inverse_word, inverse_schedule}
 use Rattle.aes.specs.FieldLaws.{add4, product_xor}
 use Rattle.aes.specs.StateLaws.{block_same, cons4, add_block, inv_sub_block, inv_shift_block, inv_mix_block}
 
--- the loop that writes the schedule
-pub schedule_more : (w out : List Bytes) (i : ℕ) (x : Bytes) → i < length out → x ≡ inverse_word w i → take i out ≡ map (inverse_word w) (range_with_len 0 i)
-    → take (i + 1) (set out i x) ≡ map (inverse_word w) (range_with_len 0 (i + 1))
-schedule_more w out i x h e inv =
-    take_more_set out i x h ∙ ap₂ (λ (ys : List Bytes) (y : Bytes). ys ++ y ∷ []) inv e ∙ sym (map-range_with_len_more (inverse_word w) 0 i i (zero-add i))
-
-pub schedule_all : (w out : List Bytes) (i : ℕ) → length out ≤ i → i ≡ length w → take i out ≡ map (inverse_word w) (range_with_len 0 i) → out ≡ inverse_schedule w
-unfolding inverse_schedule
-schedule_all w out i h e inv = sym (take_all i out h) ∙ inv ∙ ap (λ n. map (inverse_word w) (range_with_len 0 n)) e
-
 pub schedule_length : (w : List Bytes) → length (inverse_schedule w) ≡ length w
 unfolding inverse_schedule
 schedule_length w = length-map-range_with_len (inverse_word w) 0 (length w)
@@ -32,6 +21,34 @@ schedule_length w = length-map-range_with_len (inverse_word w) 0 (length w)
 chosen : (x y : Bytes) (p q : Bool) → q ≡ true → cond (p || q) x y ≡ x
 chosen x y true q e = refl
 chosen x y false q e = ap (λ t. cond t x y) e
+
+-- the first and the last four words of w, and between them what InvMixColumns makes of the others
+pub inverse_of : (w mid : List Bytes) (n : ℕ) → length w ≡ n → 8 ≤ n → length mid ≡ n - 8 → ((k : ℕ) → k < n - 8 → get_or mid k [] ≡ inv_mix_column (get_or w (4 + k) []))
+    → take 4 w ++ (mid ++ drop (n - 4 - 4) (drop 4 w)) ≡ inverse_schedule w
+unfolding inverse_schedule
+inverse_of w mid n long h few each =
+    let end : List Bytes = drop (n - 4 - 4) (drop 4 w) in
+    let four : length (take 4 w) ≡ 4 = length-take-le 4 w (omega arith) in
+    let stays : ℕ → Bytes = λ k. get_or w k [] in
+    fill_by_all (inverse_word w) (take 4 w ++ (mid ++ end)) (length w) []
+    (omega (arith, length-append (take 4 w) (mid ++ end), length-append mid end, length-drop (n - 4 - 4) (drop 4 w), length-drop 4 w))
+    (λ k l.
+    ⊎_elim
+    (λ a. get_or_append_left (take 4 w) (mid ++ end) [] k (omega arith) ∙ get_or-take 4 w k [] a
+    ∙ sym (ap (λ t. cond (t || leb (length w) (k + 4)) (stays k) (inv_mix_column (stays k))) (lt-ltb k 4 a)))
+    (λ b.
+    get_or-append_right (take 4 w) (mid ++ end) 4 k [] four b
+    ∙ ⊎_elim
+    (λ c.
+    let e : 4 + (k - 4) ≡ k = omega arith in
+    get_or_append_left mid end [] (k - 4) (omega arith) ∙ each (k - 4) (omega arith) ∙ ap (λ i. inv_mix_column (stays i)) e
+    ∙ sym (ap₂ (λ t u. cond (t || u) (stays k) (inv_mix_column (stays k))) (le-ltb k 4 b) (lt-leb (length w) (k + 4) (omega arith))))
+    (λ d.
+    let e : 4 + (n - 4 - 4 + (k - 4 - (n - 8))) ≡ k = omega arith in
+    get_or-append_right mid end (n - 8) (k - 4) [] few (omega arith) ∙ get_or-drop (n - 4 - 4) (drop 4 w) (k - 4 - (n - 8)) [] ∙ get_or-drop 4 w (n - 4 - 4 + (k - 4 - (n - 8))) [] ∙ ap stays e
+    ∙ sym (chosen (stays k) (inv_mix_column (stays k)) (ltb k 4) (leb (length w) (k + 4)) (le-leb (length w) (k + 4) (omega arith))))
+    (cases_lt k (n - 4)))
+    (cases_lt k 4))
 
 -- the matrix over a sum of two columns
 sums : (p q r t a b c d k l m n : ℕ) → a < 256 → b < 256 → c < 256 → d < 256 → k < 256 → l < 256 → m < 256 → n < 256

@@ -1,9 +1,7 @@
 -- The key schedule of a key of bytes is made of bytes.
-use Rattle.std.proofs.Common.{◌≡◌, ℕ, zero, suc, ◌+◌, ◌-◌, ◌*◌, ◌/◌, ◌%◌, ◌<◌, Bool, true, false, cond, ◌&&◌, eqb, ltb, List, [], ◌∷◌, ◌++◌, map, length, get_or, take, set, sym, ap, ◌∙◌, add-zero, zero-add, lit<}
+use Rattle.std.proofs.Common.{ℕ, zero, suc, ◌+◌, ◌-◌, ◌*◌, ◌/◌, ◌%◌, ◌<◌, Bool, true, false, cond, ◌&&◌, eqb, ltb, List, [], ◌∷◌, ◌++◌, map, get_or, lit<}
 use lib.Bits.{bit_xor}
 use Rattle.std.specs.List.{range_with_len}
-use Rattle.std.proofs.lemmas.List.{take_more_set}
-use Rattle.std.proofs.lemmas.List.FromFn.{map-range_with_len_more}
 use Rattle.byte_strings.specs.Bytes.{Bytes, Octets}
 use Rattle.aes.specs.Sbox.{sbox}
 use Rattle.aes.specs.Keys.{Words, word, power_of_x, mask, next_word, extended, key_words}
@@ -59,12 +57,3 @@ pub expanded_bytes : (nk n : ℕ) (key : Bytes) → Octets key → Words (extend
 expanded_bytes nk n key h =
     extended_bytes nk n (key_words nk key)
     (bytes_map (λ i. word (λ j. get_or key (i * 4 + j) 0)) (range_with_len 0 nk) (λ i j. map-lt (λ j. get_or key (i * 4 + j) 0) (range_with_len 0 4) (λ j. h (i * 4 + j)) j))
-
--- one word more of the key
-pub key_words_more : (w : List Bytes) (key : Bytes) (i : ℕ) → i < length w → take i w ≡ key_words i key
-    → take (i + 1) (set w i (get_or key (i * 4) 0 ∷ get_or key (i * 4 + 1) 0 ∷ get_or key (i * 4 + 2) 0 ∷ get_or key (i * 4 + 3) 0 ∷ [])) ≡ key_words (i + 1) key
-key_words_more w key i h inv =
-    let f : ℕ → Bytes = λ n. word (λ j. get_or key (n * 4 + j) 0) in
-    let x : Bytes = get_or key (i * 4) 0 ∷ get_or key (i * 4 + 1) 0 ∷ get_or key (i * 4 + 2) 0 ∷ get_or key (i * 4 + 3) 0 ∷ [] in
-    let e : x ≡ f i = ap (λ n. get_or key n 0 ∷ get_or key (i * 4 + 1) 0 ∷ get_or key (i * 4 + 2) 0 ∷ get_or key (i * 4 + 3) 0 ∷ []) (sym (add-zero (i * 4))) in
-    take_more_set w i x h ∙ ap (λ y. take i w ++ y ∷ []) e ∙ ap (λ ws. ws ++ f i ∷ []) inv ∙ sym (map-range_with_len_more f 0 i i (zero-add i))

@@ -1,29 +1,25 @@
 -- The cases of the mask, and one word more of the schedule.
-use Rattle.std.proofs.Common.{◌≡◌, ℕ, suc, ◌+◌, ◌-◌, ◌/◌, ◌%◌, ◌<◌, ◌≤◌, true, false, ◌&&◌, eqb, ltb, List, [], ◌∷◌, ◌++◌, length, get_or, take, set, sym, ap, ◌∙◌, ap₂, arith}
+use Rattle.std.proofs.Common.{◌≡◌, ℕ, suc, refl, ◌+◌, ◌-◌, ◌/◌, ◌%◌, ◌<◌, ◌≤◌, true, false, ◌&&◌, eqb, ltb, List, [], ◌∷◌, ◌++◌, length, get_or, take, set, sym, ap, ◌∙◌, ap₂, arith}
 use lib.Bits.{bit_xor, xor_zero_r}
 use Rattle.std.proofs.lemmas.List.{get_or-take, take_more_set}
 use Rattle.byte_strings.specs.Bytes.{Bytes}
 use Rattle.aes.specs.Sbox.{sbox}
+use Rattle.aes.proofs.WordLaws.{four}
 use Rattle.aes.specs.Keys.{word, power_of_x, mask, next_word, pushed, extended}
 
-abbrev rotated_byte : Bytes → ℕ → ℕ
-rotated_byte w j = sbox (get_or w ((j + 1) % 4) 0)
+-- the mask by its three cases
+module _ (nk i : ℕ) (w : Bytes) where
+  pub mask_first : eqb (i % nk) 0 ≡ true → bit_xor (sbox (get_or w 1 0)) (power_of_x (i / nk - 1)) ∷ sbox (get_or w 2 0) ∷ sbox (get_or w 3 0) ∷ sbox (get_or w 0 0) ∷ [] ≡ word (mask nk i w)
+  unfolding mask
+  mask_first e = rw e (four refl (sym (xor_zero_r (sbox (get_or w 2 0)))) (sym (xor_zero_r (sbox (get_or w 3 0)))) (sym (xor_zero_r (sbox (get_or w 0 0)))))
 
-pub mask_first : (nk i : ℕ) (w : Bytes) (j : ℕ) → eqb (i % nk) 0 ≡ true → eqb j 0 ≡ true → bit_xor (rotated_byte w j) (power_of_x (i / nk - 1)) ≡ mask nk i w j
-unfolding mask
-mask_first nk i w j e f = rw (e, f)
+  pub mask_subbed : eqb (i % nk) 0 ≡ false → (ltb 6 nk && eqb (i % nk) 4) ≡ true → word (λ j. sbox (get_or w j 0)) ≡ word (mask nk i w)
+  unfolding mask
+  mask_subbed e f = rw (e, f)
 
-pub mask-rotated : (nk i : ℕ) (w : Bytes) (j : ℕ) → eqb (i % nk) 0 ≡ true → eqb j 0 ≡ false → rotated_byte w j ≡ mask nk i w j
-unfolding mask
-mask-rotated nk i w j e f = rw (e, f) (sym (xor_zero_r (rotated_byte w j)))
-
-pub mask_subbed : (nk i : ℕ) (w : Bytes) (j : ℕ) → eqb (i % nk) 0 ≡ false → (ltb 6 nk && eqb (i % nk) 4) ≡ true → sbox (get_or w j 0) ≡ mask nk i w j
-unfolding mask
-mask_subbed nk i w j e f = rw (e, f)
-
-pub mask-plain : (nk i : ℕ) (w : Bytes) (j : ℕ) → eqb (i % nk) 0 ≡ false → (ltb 6 nk && eqb (i % nk) 4) ≡ false → get_or w j 0 ≡ mask nk i w j
-unfolding mask
-mask-plain nk i w j e f = rw (e, f)
+  pub mask-plain : eqb (i % nk) 0 ≡ false → (ltb 6 nk && eqb (i % nk) 4) ≡ false → word (λ j. get_or w j 0) ≡ word (mask nk i w)
+  unfolding mask
+  mask-plain e f = rw (e, f)
 
 -- word i needs only the words before it
 pub next_word-front : (nk i : ℕ) (w : List Bytes) → 0 < nk → nk ≤ i → next_word nk i w ≡ next_word nk i (take i w)

@@ -5,6 +5,8 @@ mod KeySteps
 mod KeyLaws
 mod WordLaws
 mod RoundWords
+mod Chunks
+mod RoundKeys
 mod EquivalentSteps
 mod EquivalentLaws
 pub mod AesLaws

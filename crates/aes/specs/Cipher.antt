@@ -1,5 +1,5 @@
 -- Cipher and InvCipher of FIPS 197, for any number of rounds, and AES-128 and AES-256 by them; w is the key schedule.
-use Rattle.std.specs.Prelude.{ℕ, zero, suc, ◌-◌, List}
+use Rattle.std.specs.Prelude.{◌≡◌, ℕ, zero, suc, ◌+◌, ◌-◌, ◌*◌, ◌≤◌, List}
 use Rattle.byte_strings.specs.Bytes.{Bytes}
 use Rattle.aes.specs.BlockCipher.{Permutation}
 use Rattle.aes.specs.Keys.{key_expansion}
@@ -26,13 +26,23 @@ inv_cipher w nr s = inv_rounds w (nr - 1) (inv_sub_bytes (inv_shift_rows (add_ro
 abbrev pub rijndael : ℕ → List Bytes → Permutation
 rijndael nr w = record { forward = cipher w nr; back = inv_cipher w nr }
 
--- AES with a key of 4 words
-abbrev pub aes128 : Bytes → Permutation
-aes128 key = rijndael 10 (key_expansion 4 10 key)
+-- AES with a key of nk words: nk + 6 rounds
+abbrev pub aes : ℕ → Bytes → Permutation
+aes nk key = rijndael (nk + 6) (key_expansion nk (nk + 6) key)
 
--- AES with a key of 8 words
+-- AES with a key of 4 words: 10 rounds
+abbrev pub aes128 : Bytes → Permutation
+aes128 = aes 4
+
+-- AES with a key of 8 words: 14 rounds
 abbrev pub aes256 : Bytes → Permutation
-aes256 key = rijndael 14 (key_expansion 8 14 key)
+aes256 = aes 8
+
+-- the sizes that belong together: a key of nk words, at least 4, is one of nk * 4 bytes, and each of its nk + 6 rounds, and the start, takes 4 words of the schedule
+pub record Sizes (key words rounds : ℕ) : Type 0 where
+  pub key_bytes : key + 24 ≡ rounds * 4
+  pub schedule_words : words ≡ rounds * 4 + 4
+  pub least : 10 ≤ rounds
 
 -- the equivalent inverse cipher, whose schedule is another: n full rounds, and then the last
 unfoldable pub eq_inv_rounds : List Bytes → ℕ → Bytes → Bytes

@@ -75,35 +75,11 @@ const MUL14: [u8; 256] = *b"\
     \x37\x39\x2b\x25\x0f\x01\x13\x1d\x47\x49\x5b\x55\x7f\x71\x63\x6d\
     \xd7\xd9\xcb\xc5\xef\xe1\xf3\xfd\xa7\xa9\xbb\xb5\x9f\x91\x83\x8d";
 
-fn times_9(b: u8) -> u8
-    ensures { result ≡ product 9 b }
-{
-    MUL9[b as usize]
-}
-
-fn times_11(b: u8) -> u8
-    ensures { result ≡ product 11 b }
-{
-    MUL11[b as usize]
-}
-
-fn times_13(b: u8) -> u8
-    ensures { result ≡ product 13 b }
-{
-    MUL13[b as usize]
-}
-
-fn times_14(b: u8) -> u8
-    ensures { result ≡ product 14 b }
-{
-    MUL14[b as usize]
-}
-
 // The first row of the matrix of InvMixColumns times the column a, b, c, d.
 fn inv_mix_byte(a: u8, b: u8, c: u8, d: u8) -> u8
     ensures { result ≡ sum4 (product 14 a) (product 11 b) (product 13 c) (product 9 d) }
 {
-    (times_14(a) ^ times_11(b)) ^ (times_13(c) ^ times_9(d))
+    (MUL14[a as usize] ^ MUL11[b as usize]) ^ (MUL13[c as usize] ^ MUL9[d as usize])
 }
 
 // One column through InvMixColumns.

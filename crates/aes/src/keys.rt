@@ -1,6 +1,8 @@
 // Key expansion, and the schedule of the equivalent inverse cipher.
-ghost use Rattle.std.specs.Prelude.{◌≡◌, ◌+◌, ◌-◌, ◌*◌, ◌/◌, ◌<◌, ◌≤◌, length, take};
-ghost use Rattle.aes.specs.Keys.{power_of_x, mask, next_word, extended, key_words, Words, inverse_word, inverse_schedule};
+ghost use Rattle.std.specs.Prelude.{◌≡◌, ℕ, ◌-◌, ◌*◌, ◌<◌, ◌≤◌, [], length, slice_index, slice_index_or};
+ghost use Rattle.aes.specs.State.{inv_mix_column};
+ghost use Rattle.aes.specs.Sbox.{sbox};
+ghost use Rattle.aes.specs.Keys.{power_of_x, word, mask, next_word, extended, key_words, Words, inverse_schedule};
 
 use crate::field::inv_mix_column;
 use crate::sbox::sub_byte;
@@ -14,22 +16,25 @@ fn round_constant(n: usize) -> u8
     RCON[n]
 }
 
-// Byte j of what is added to word i - nk, from word i - 1.
-fn mask_byte(word: &[u8; 4], nk: usize, i: usize, j: usize) -> u8
-    requires { (0 < nk) × ((nk ≤ i) × ((i < 11 * nk) × (j < 4))) }
-    ensures { result ≡ mask nk i word.now j }
+// SubWord.
+fn sub_word(w: &[u8; 4]) -> [u8; 4]
+    ensures { result ≡ word (λ j. sbox (slice_index w.now j)) }
+{
+    w.map(sub_byte)
+}
+
+// What is added to word i - nk, from word i - 1.
+fn mask(before: &[u8; 4], nk: usize, i: usize) -> [u8; 4]
+    requires { (0 < nk) × ((nk ≤ i) × (i < 11 * nk)) }
+    ensures { result ≡ word (mask nk i before.now) }
 {
     if i % nk == 0 {
-        let b = sub_byte(word[(j + 1) % 4]);
-        if j == 0 {
-            b ^ round_constant(i / nk - 1)
-        } else {
-            b
-        }
+        let [a, b, c, d] = sub_word(before);
+        [b ^ round_constant(i / nk - 1), c, d, a]
     } else if nk > 6 && i % nk == 4 {
-        sub_byte(word[j])
+        sub_word(before)
     } else {
-        word[j]
+        *before
     }
 }
 
@@ -37,25 +42,9 @@ fn next_word(w: &[[u8; 4]], nk: usize, i: usize) -> [u8; 4]
     requires { (0 < nk) × ((nk ≤ i) × ((i < 11 * nk) × (i < length w.now))) }
     ensures { result ≡ next_word nk i w.now }
 {
-    let last = w[i - 1];
-    let before = w[i - nk];
-    let mut out = [0; 4];
-    for j in 0..4 {
-        out[j] = before[j] ^ mask_byte(&last, nk, i, j);
-    }
-    out
-}
-
-// The key's own words, at the front of a schedule of N words.
-fn key_words<const N: usize>(key: &[u8]) -> [[u8; 4]; N]
-    requires { length key.now ≤ 4 * N }
-    ensures { take (length key.now / 4) result ≡ key_words (length key.now / 4) key.now }
-{
-    let mut w = [[0; 4]; N];
-    for i in 0..key.len() / 4 {
-        w[i] = [key[i * 4], key[i * 4 + 1], key[i * 4 + 2], key[i * 4 + 3]];
-    }
-    w
+    let [a, b, c, d] = w[i - nk];
+    let [e, f, g, h] = mask(&w[i - 1], nk, i);
+    [a ^ e, b ^ f, c ^ g, d ^ h]
 }
 
 // The schedule of N words of a key of nk words; there are round constants for 11 nk words.
@@ -63,36 +52,33 @@ fn expanded<const N: usize>(key: &[u8], nk: usize) -> [[u8; 4]; N]
     requires { (length key.now ≡ nk * 4) × ((0 < nk) × ((nk ≤ N) × (N ≤ 11 * nk))) }
     ensures { result ≡ extended nk (N - nk) (key_words nk key.now) }
 {
-    let mut w = key_words::<N>(key);
+    let mut w = [[0; 4]; N];
+    let (key_words, _) = key.as_chunks();
+    w[..nk].copy_from_slice(key_words);
+    // Stays a loop over the index: each word is made of words before it.
     for i in nk..N {
-        let word = next_word(&w, nk, i);
-        w[i] = word;
+        w[i] = next_word(&w, nk, i);
     }
     w
 }
 
-// Word i of the inverse schedule.
-fn inverse_word(w: &[[u8; 4]], i: usize) -> [u8; 4]
-    requires { i < length w.now }
-    ensures { result ≡ inverse_word w.now i }
+// Takes each word through InvMixColumns.
+fn inv_mix_words(words: &mut [[u8; 4]])
+    ensures { (k : ℕ) → k < length words.old → slice_index_or words.new k [] ≡ inv_mix_column (slice_index_or words.old k []) }
 {
-    let word = w[i];
-    if i < 4 || w.len() - i <= 4 {
-        word
-    } else {
-        inv_mix_column(&word)
+    for word in words.iter_mut() {
+        *word = inv_mix_column(word);
     }
 }
 
-// The inverse schedule of w.
-fn inverted<const N: usize>(w: &[[u8; 4]]) -> [[u8; 4]; N]
-    requires { length w.now ≡ N }
+// The inverse schedule of w: the first and the last round key stay.
+fn inverted<const N: usize>(w: &[[u8; 4]; N]) -> [[u8; 4]; N]
+    requires { 8 ≤ N }
     ensures { result ≡ inverse_schedule w.now }
 {
-    let mut out = [[0; 4]; N];
-    for i in 0..N {
-        out[i] = inverse_word(w, i);
-    }
+    let mut out = *w;
+    let words = &mut out[..];
+    inv_mix_words(&mut words[4..N - 4]);
     out
 }
 
@@ -108,11 +94,11 @@ pub(crate) struct Schedule<const N: usize> {
 impl<const N: usize> Schedule<N> {
     // The schedule of a key of nk words.
     pub(crate) fn new(key: &[u8], nk: usize) -> Schedule<N>
-        requires { (length key.now ≡ nk * 4) × ((0 < nk) × ((nk ≤ N) × (N ≤ 11 * nk))) }
+        requires { (length key.now ≡ nk * 4) × ((0 < nk) × ((nk ≤ N) × ((8 ≤ N) × (N ≤ 11 * nk)))) }
         ensures { result.words ≡ extended nk (N - nk) (key_words nk key.now) }
     {
         let words = expanded::<N>(key, nk);
-        let inverse = inverted::<N>(&words);
+        let inverse = inverted(&words);
         Schedule { words, inverse }
     }
 }

@@ -2,7 +2,7 @@
 ghost use Rattle.std.specs.Prelude.{◌≡◌};
 ghost use Rattle.aes.specs.Sbox.{sbox, inv_sbox};
 
-const S_BOX: [u8; 256] = *b"\
+pub(crate) const S_BOX: [u8; 256] = *b"\
     \x63\x7c\x77\x7b\xf2\x6b\x6f\xc5\x30\x01\x67\x2b\xfe\xd7\xab\x76\
     \xca\x82\xc9\x7d\xfa\x59\x47\xf0\xad\xd4\xa2\xaf\x9c\xa4\x72\xc0\
     \xb7\xfd\x93\x26\x36\x3f\xf7\xcc\x34\xa5\xe5\xf1\x71\xd8\x31\x15\
@@ -20,7 +20,7 @@ const S_BOX: [u8; 256] = *b"\
     \xe1\xf8\x98\x11\x69\xd9\x8e\x94\x9b\x1e\x87\xe9\xce\x55\x28\xdf\
     \x8c\xa1\x89\x0d\xbf\xe6\x42\x68\x41\x99\x2d\x0f\xb0\x54\xbb\x16";
 
-const INV_S_BOX: [u8; 256] = *b"\
+pub(crate) const INV_S_BOX: [u8; 256] = *b"\
     \x52\x09\x6a\xd5\x30\x36\xa5\x38\xbf\x40\xa3\x9e\x81\xf3\xd7\xfb\
     \x7c\xe3\x39\x82\x9b\x2f\xff\x87\x34\x8e\x43\x44\xc4\xde\xe9\xcb\
     \x54\x7b\x94\x32\xa6\xc2\x23\x3d\xee\x4c\x95\x0b\x42\xfa\xc3\x4e\
@@ -38,26 +38,12 @@ const INV_S_BOX: [u8; 256] = *b"\
     \xa0\xe0\x3b\x4d\xae\x2a\xf5\xb0\xc8\xeb\xbb\x3c\x83\x53\x99\x61\
     \x17\x2b\x04\x7e\xba\x77\xd6\x26\xe1\x69\x14\x63\x55\x21\x0c\x7d";
 
-fn sbox_entry(b: u8) -> u8
-    ensures value { result ≡ sbox b }
-    ensures undone { inv_sbox result ≡ b }
-{
-    S_BOX[b as usize]
-}
-
-fn inv_entry(b: u8) -> u8
-    ensures value { result ≡ inv_sbox b }
-    ensures undone { sbox result ≡ b }
-{
-    INV_S_BOX[b as usize]
-}
-
 // SubBytes of one byte, which the inverse S-box undoes.
 pub fn sub_byte(b: u8) -> u8
     ensures value { result ≡ sbox b }
     ensures undone { inv_sbox result ≡ b }
 {
-    sbox_entry(b)
+    S_BOX[b as usize]
 }
 
 // InvSubBytes of one byte, which the S-box undoes.
@@ -65,5 +51,5 @@ pub fn inv_sub_byte(b: u8) -> u8
     ensures value { result ≡ inv_sbox b }
     ensures undone { sbox result ≡ b }
 {
-    inv_entry(b)
+    INV_S_BOX[b as usize]
 }

@@ -1,133 +1,79 @@
 // The state as four words, one for each column, and the rounds on it.
-ghost use Rattle.std.specs.Prelude.{◌≡◌, ◌+◌, ◌*◌, ◌/◌, ◌%◌, ◌<◌, ◌≤◌, ◌++◌, length, slice_index};
-ghost use Rattle.aes.specs.Sbox.{sbox, inv_sbox};
-ghost use Rattle.aes.specs.State.{sub_bytes, inv_sub_bytes, shift_rows, inv_shift_rows, mix_columns, inv_mix_columns, add_round_key};
-ghost use Rattle.aes.specs.Words.{bytes_of, unpacked, added, mixed};
+ghost use Rattle.std.specs.Prelude.{◌≡◌, slice_index};
+ghost use Rattle.aes.specs.Directions.{substituted, shifted, columns_mixed, column_mixed, column_substituted};
+ghost use Rattle.aes.specs.State.{add_round_key};
+ghost use Rattle.aes.specs.Words.{bytes_of, unpacked, added};
 
-use crate::sbox::{inv_sub_byte, sub_byte};
-use crate::words::{inv_mix_0, inv_mix_1, inv_mix_2, inv_mix_3, mix_0, mix_1, mix_2, mix_3};
+use crate::direction::Direction;
 
-// Column i of the block, with a key's word added.
-fn first_column(block: &[u8; 16], i: usize, key: &[u8; 4]) -> u32
-    requires { i < 4 }
-    ensures { bytes_of result ≡ added (slice_index block.now (i * 4)) (slice_index block.now (i * 4 + 1)) (slice_index block.now (i * 4 + 2)) (slice_index block.now (i * 4 + 3)) key.now }
+// The four words of a round key.
+pub(crate) type RoundKey = [[u8; 4]; 4];
+
+// A column with a key's word added.
+fn first_column(bytes: &[u8; 4], key: &[u8; 4]) -> u32
+    ensures { bytes_of result ≡ added (slice_index bytes.now 0) (slice_index bytes.now 1) (slice_index bytes.now 2) (slice_index bytes.now 3) key.now }
 {
-    u32::from_le_bytes([
-        block[i * 4],
-        block[i * 4 + 1],
-        block[i * 4 + 2],
-        block[i * 4 + 3],
-    ]) ^ u32::from_le_bytes(*key)
+    u32::from_le_bytes(*bytes) ^ u32::from_le_bytes(*key)
 }
 
-// Adds the words 4 n to 4 n + 3 of the schedule.
-pub(crate) fn first_round(w: &[[u8; 4]], n: usize, block: &[u8; 16]) -> [u32; 4]
-    requires { n * 4 + 4 ≤ length w.now }
-    ensures { unpacked result ≡ add_round_key w.now n block.now }
+// Only adds the round key.
+pub(crate) fn first_round(key: &RoundKey, block: &[u8; 16]) -> [u32; 4]
+    ensures { unpacked result ≡ add_round_key key.now 0 block.now }
 {
+    let (columns, _) = block.as_chunks();
     [
-        first_column(block, 0, &w[n * 4]),
-        first_column(block, 1, &w[n * 4 + 1]),
-        first_column(block, 2, &w[n * 4 + 2]),
-        first_column(block, 3, &w[n * 4 + 3]),
+        first_column(&columns[0], &key[0]),
+        first_column(&columns[1], &key[1]),
+        first_column(&columns[2], &key[2]),
+        first_column(&columns[3], &key[3]),
     ]
 }
 
-fn joined(a: &[u8; 4], b: &[u8; 4], c: &[u8; 4], d: &[u8; 4]) -> [u8; 16]
-    ensures { result ≡ a.now ++ (b.now ++ (c.now ++ d.now)) }
+// One column through the S-box and the columns' matrix, with a key's word added.
+fn column<D: Direction>(bytes: &[u8; 4], key: &[u8; 4]) -> u32
+    ensures { bytes_of result ≡ column_mixed D.inverse bytes.now key.now }
 {
-    [
-        a[0], a[1], a[2], a[3], b[0], b[1], b[2], b[3], c[0], c[1], c[2], c[3], d[0], d[1], d[2],
-        d[3],
-    ]
-}
-
-// A column of a round: byte r of it comes from byte r of the word of row r.
-fn column(a: u32, b: u32, c: u32, d: u32, key: &[u8; 4]) -> u32
-    ensures { bytes_of result ≡ mixed 2 3 1 1 (sbox (a % 256)) (sbox (b / 256 % 256)) (sbox (c / 65536 % 256)) (sbox (d / 16777216 % 256)) key.now }
-{
-    let low = mix_0((a % 256) as u8) ^ mix_1((b / 256 % 256) as u8);
-    let high = mix_2((c / 65536 % 256) as u8) ^ mix_3((d / 16777216 % 256) as u8);
+    let rows = D::rows();
+    let [a, b, c, d] = *bytes;
+    let low = rows[0][a as usize] ^ rows[1][b as usize];
+    let high = rows[2][c as usize] ^ rows[3][d as usize];
     (low ^ high) ^ u32::from_le_bytes(*key)
 }
 
-pub(crate) fn round(w: &[[u8; 4]], n: usize, s: &[u32; 4]) -> [u32; 4]
-    requires { n * 4 + 4 ≤ length w.now }
-    ensures { unpacked result ≡ add_round_key w.now n (mix_columns (shift_rows (sub_bytes (unpacked s.now)))) }
+pub(crate) fn round<D: Direction>(key: &RoundKey, state: &[u32; 4]) -> [u32; 4]
+    ensures { unpacked result ≡ add_round_key key.now 0 (columns_mixed D.inverse (shifted D.inverse (substituted D.inverse (unpacked state.now)))) }
 {
+    let columns = D::columns(state);
     [
-        column(s[0], s[1], s[2], s[3], &w[n * 4]),
-        column(s[1], s[2], s[3], s[0], &w[n * 4 + 1]),
-        column(s[2], s[3], s[0], s[1], &w[n * 4 + 2]),
-        column(s[3], s[0], s[1], s[2], &w[n * 4 + 3]),
+        column::<D>(&columns[0], &key[0]),
+        column::<D>(&columns[1], &key[1]),
+        column::<D>(&columns[2], &key[2]),
+        column::<D>(&columns[3], &key[3]),
     ]
 }
 
-fn last_column(a: u32, b: u32, c: u32, d: u32, key: &[u8; 4]) -> [u8; 4]
-    ensures { result ≡ added (sbox (a % 256)) (sbox (b / 256 % 256)) (sbox (c / 65536 % 256)) (sbox (d / 16777216 % 256)) key.now }
+// One column through the S-box, with a key's word added.
+fn last_column<D: Direction>(bytes: &[u8; 4], key: &[u8; 4]) -> [u8; 4]
+    ensures { result ≡ column_substituted D.inverse bytes.now key.now }
 {
+    let s_box = D::bytes();
+    let [a, b, c, d] = *bytes;
     [
-        sub_byte((a % 256) as u8) ^ key[0],
-        sub_byte((b / 256 % 256) as u8) ^ key[1],
-        sub_byte((c / 65536 % 256) as u8) ^ key[2],
-        sub_byte((d / 16777216 % 256) as u8) ^ key[3],
+        s_box[a as usize] ^ key[0],
+        s_box[b as usize] ^ key[1],
+        s_box[c as usize] ^ key[2],
+        s_box[d as usize] ^ key[3],
     ]
 }
 
-// The last round mixes no columns.
-pub(crate) fn last_round(w: &[[u8; 4]], n: usize, s: &[u32; 4]) -> [u8; 16]
-    requires { n * 4 + 4 ≤ length w.now }
-    ensures { result ≡ add_round_key w.now n (shift_rows (sub_bytes (unpacked s.now))) }
+// Mixes no columns.
+pub(crate) fn last_round<D: Direction>(key: &RoundKey, state: &[u32; 4]) -> [u8; 16]
+    ensures { result ≡ add_round_key key.now 0 (shifted D.inverse (substituted D.inverse (unpacked state.now))) }
 {
-    joined(
-        &last_column(s[0], s[1], s[2], s[3], &w[n * 4]),
-        &last_column(s[1], s[2], s[3], s[0], &w[n * 4 + 1]),
-        &last_column(s[2], s[3], s[0], s[1], &w[n * 4 + 2]),
-        &last_column(s[3], s[0], s[1], s[2], &w[n * 4 + 3]),
-    )
-}
-
-// A column of a round of the equivalent inverse cipher: byte r of it comes from byte r of the word of row r.
-fn inv_column(a: u32, b: u32, c: u32, d: u32, key: &[u8; 4]) -> u32
-    ensures { bytes_of result ≡ mixed 14 11 13 9 (inv_sbox (a % 256)) (inv_sbox (b / 256 % 256)) (inv_sbox (c / 65536 % 256)) (inv_sbox (d / 16777216 % 256)) key.now }
-{
-    let low = inv_mix_0((a % 256) as u8) ^ inv_mix_1((b / 256 % 256) as u8);
-    let high = inv_mix_2((c / 65536 % 256) as u8) ^ inv_mix_3((d / 16777216 % 256) as u8);
-    (low ^ high) ^ u32::from_le_bytes(*key)
-}
-
-pub(crate) fn inv_round(w: &[[u8; 4]], n: usize, s: &[u32; 4]) -> [u32; 4]
-    requires { n * 4 + 4 ≤ length w.now }
-    ensures { unpacked result ≡ add_round_key w.now n (inv_mix_columns (inv_shift_rows (inv_sub_bytes (unpacked s.now)))) }
-{
-    [
-        inv_column(s[0], s[3], s[2], s[1], &w[n * 4]),
-        inv_column(s[1], s[0], s[3], s[2], &w[n * 4 + 1]),
-        inv_column(s[2], s[1], s[0], s[3], &w[n * 4 + 2]),
-        inv_column(s[3], s[2], s[1], s[0], &w[n * 4 + 3]),
-    ]
-}
-
-fn inv_last_column(a: u32, b: u32, c: u32, d: u32, key: &[u8; 4]) -> [u8; 4]
-    ensures { result ≡ added (inv_sbox (a % 256)) (inv_sbox (b / 256 % 256)) (inv_sbox (c / 65536 % 256)) (inv_sbox (d / 16777216 % 256)) key.now }
-{
-    [
-        inv_sub_byte((a % 256) as u8) ^ key[0],
-        inv_sub_byte((b / 256 % 256) as u8) ^ key[1],
-        inv_sub_byte((c / 65536 % 256) as u8) ^ key[2],
-        inv_sub_byte((d / 16777216 % 256) as u8) ^ key[3],
-    ]
-}
-
-// The last round mixes no columns.
-pub(crate) fn inv_last_round(w: &[[u8; 4]], n: usize, s: &[u32; 4]) -> [u8; 16]
-    requires { n * 4 + 4 ≤ length w.now }
-    ensures { result ≡ add_round_key w.now n (inv_shift_rows (inv_sub_bytes (unpacked s.now))) }
-{
-    joined(
-        &inv_last_column(s[0], s[3], s[2], s[1], &w[n * 4]),
-        &inv_last_column(s[1], s[0], s[3], s[2], &w[n * 4 + 1]),
-        &inv_last_column(s[2], s[1], s[0], s[3], &w[n * 4 + 2]),
-        &inv_last_column(s[3], s[2], s[1], s[0], &w[n * 4 + 3]),
-    )
+    let columns = D::columns(state);
+    let [a, b, c, d] = last_column::<D>(&columns[0], &key[0]);
+    let [e, f, g, h] = last_column::<D>(&columns[1], &key[1]);
+    let [i, j, k, l] = last_column::<D>(&columns[2], &key[2]);
+    let [m, n, o, p] = last_column::<D>(&columns[3], &key[3]);
+    [a, b, c, d, e, f, g, h, i, j, k, l, m, n, o, p]
 }

@@ -1,11 +1,11 @@
 // Block ciphers that are made from a key.
-ghost use Rattle.std.specs.Prelude.{◌≡◌, length, MatchOption, ◌≢◌};
+ghost use Rattle.std.specs.Prelude.{◌≡◌, ◌/◌, length, MatchOption, ◌≢◌};
 ghost use Rattle.byte_strings.specs.Bytes.{Bytes, Octets};
 ghost use Rattle.aes.specs.BlockCipher.{Invertible};
-ghost use Rattle.chained.specs.Keyed.{Family, aes_128, aes_256};
-ghost use Rattle.aes.proofs.AesLaws.{aes128_invertible, aes256_invertible};
+ghost use Rattle.chained.specs.Keyed.{Family, aes_family};
+ghost use Rattle.aes.proofs.AesLaws.{aes_invertible};
 
-use aes::{Aes128, Aes256, BlockCipher};
+use aes::{Aes, BlockCipher, KeySize};
 
 pub trait KeyedCipher: BlockCipher + Drop + Sized {
     // the cipher under each key
@@ -22,30 +22,20 @@ pub trait KeyedCipher: BlockCipher + Drop + Sized {
     ghost keyed: { (k : Bytes) → length k ≡ family.size → Octets k → Invertible (family.under k) };
 }
 
-impl KeyedCipher for Aes128 {
-    ghost family = { aes_128 };
+impl<const KEY: usize, const WORDS: usize, const ROUNDS: usize> KeyedCipher
+    for Aes<KEY, WORDS, ROUNDS>
+where
+    Self: KeySize<KEY, WORDS, ROUNDS>,
+{
+    ghost family = { aes_family KEY };
 
-    ghost keyed = { λ k sized octets. aes128_invertible k octets };
-
-    fn key_len() -> usize {
-        16
-    }
-
-    fn with_key(key: &[u8]) -> Option<Aes128> {
-        Aes128::from_slice(key)
-    }
-}
-
-impl KeyedCipher for Aes256 {
-    ghost family = { aes_256 };
-
-    ghost keyed = { λ k sized octets. aes256_invertible k octets };
+    ghost keyed = { λ k sized octets. aes_invertible (KEY / 4) k octets };
 
     fn key_len() -> usize {
-        32
+        KEY
     }
 
-    fn with_key(key: &[u8]) -> Option<Aes256> {
-        Aes256::from_slice(key)
+    fn with_key(key: &[u8]) -> Option<Self> {
+        Self::from_slice(key)
     }
 }

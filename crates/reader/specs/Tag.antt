@@ -1,7 +1,6 @@
 -- What a file's tag stands for; none is unresolved.
 use Rattle.std.specs.Prelude.{Some, None as Nothing, Option}
-use Rattle.aes.specs.declared.Aes128.{Aes128}
-use Rattle.aes.specs.declared.Aes256.{Aes256}
+use Rattle.aes.specs.declared.Aes.{Aes}
 use Rattle.aes.specs.Cipher.{rijndael}
 use Rattle.filters.specs.declared.tag.Tag.{Tag}
 use Rattle.filters.specs.declared.tag.Tag.TheVariants.{None, V2, AESV2, AESV3}
@@ -38,5 +37,5 @@ mark_for Nothing = Passed
 mark_for (Some t) = Restored
 
 -- what the running states of the four methods mean
-abbrev pub tag_means : OneOf IdentityState Rc4State (ChainedState Aes128) (ChainedState Aes256) → Residual
+abbrev pub tag_means : OneOf IdentityState Rc4State (ChainedState (Aes 16 44 10)) (ChainedState (Aes 32 60 14)) → Residual
 tag_means = one_means (λ _. copying) (λ s. streaming s.cipher) (meaning (λ c. rijndael 10 c.schedule.words)) (meaning (λ c. rijndael 14 c.schedule.words))

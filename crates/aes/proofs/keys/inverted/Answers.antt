@@ -1,15 +1,16 @@
--- One word of the inverse schedule more, and all of them.
-use Rattle.std.proofs.Common.{refl, arith, rules}
-use Rattle.std.proofs.lemmas.List.{length-replicate}
-use Rattle.aes.proofs.EquivalentLaws.{schedule_more, schedule_all}
+-- The words between the first and the last four have gone through InvMixColumns.
+use Rattle.std.proofs.Common.{◌≡◌, ◌-◌, ◌<◌, [], length, take, drop, ap, ◌∙◌, arith, length-drop}
+use Rattle.std.proofs.lemmas.List.{get_or-take, get_or-drop, length-take-le}
+use Rattle.aes.specs.State.{inv_mix_column}
+use Rattle.aes.proofs.EquivalentLaws.{inverse_of}
 use Rattle.aes.proofs.keys.inverted.Goals as goal
 
-pub loop-i-init : goal.loop-i-init
-loop-i-init g c = (length-replicate g.row.N _, refl)
-
-pub loop-i-preserved : goal.loop-i-preserved
-loop-i-preserved g c =
-    (search rules, schedule_more c.args.w.now c.loop-i.out c.loop-i.i c.inverse_word.result (omega arith) c.inverse_word.ensures c.loop-i.invariant.1)
-
 pub returns : goal.returns
-returns g c = schedule_all c.args.w.now c.loop-i.out c.loop-i.i (omega arith) (omega arith) c.loop-i.invariant.1
+returns g c =
+    let w = c.args.w.now in
+    let n = g.row.N in
+    let l : length (take (n - 4 - 4) (drop 4 w)) ≡ n - 4 - 4 = length-take-le (n - 4 - 4) (drop 4 w) (omega (arith, length-drop 4 w)) in
+    inverse_of w c.inv_mix_words.new.words n c.told-w c.requires (omega arith)
+    (λ k h.
+    let m : k < n - 4 - 4 = omega arith in
+    c.inv_mix_words.ensures k (omega arith) ∙ ap inv_mix_column (get_or-take (n - 4 - 4) (drop 4 w) k [] m ∙ get_or-drop 4 w k []))

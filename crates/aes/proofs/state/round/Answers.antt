@@ -1,10 +1,15 @@
 -- A round on four words is the round on their bytes.
-use Rattle.aes.specs.State.{sub_bytes, shift_rows, mix_columns}
-use Rattle.aes.specs.Words.{unpacked, mixed}
-use Rattle.aes.proofs.RoundWords.{added-words}
+use Rattle.std.proofs.Common.{ℕ, List, ◌∙◌, ap, [], get_or}
+use Rattle.byte_strings.specs.Bytes.{Bytes}
+use Rattle.aes.specs.Directions.{column_mixed}
+use Rattle.aes.specs.Words.{unpacked}
+use Rattle.aes.proofs.RoundWords.{mixed_words}
 use Rattle.aes.proofs.state.round.Goals as goal
 
 pub returns : goal.returns
-unfolding unpacked mixed mix_columns shift_rows sub_bytes
-returns c =
-    added-words c.args.w.now c.args.n (mix_columns (shift_rows (sub_bytes (unpacked c.args.s.now)))) c.column.ensures c.column-2.ensures c.column-3.ensures c.column-4.ensures
+unfolding unpacked
+returns g c =
+    let e = c.columns-columns.ensures in
+    let at = λ (i : ℕ). ap (λ (cs : List Bytes). column_mixed g.D.Direction.inverse (get_or cs i []) (get_or c.args.key.now i [])) e in
+    mixed_words c.args.key.now (unpacked c.args.state.now) g.D.Direction.inverse
+    (c.column.ensures ∙ at 0) (c.column-2.ensures ∙ at 1) (c.column-3.ensures ∙ at 2) (c.column-4.ensures ∙ at 3)
