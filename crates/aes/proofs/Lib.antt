@@ -1,5 +1,4 @@
 -- Lemmas on tables that a loop fills, on words, on the key expansion and on the rounds of the code.
-pub mod Filled
 mod CipherSteps
 mod KeySteps
 mod KeyLaws

@@ -30,7 +30,8 @@ fn chain<C: BlockCipher>(cipher: &C, data: &[u8], iv: &[u8; 16], out: &mut [u8])
 {
     let (blocks, rest) = data.as_chunks::<16>();
     let mut before = *iv;
-    // Stays a write by place: what is written through `as_chunks_mut` or `iter_mut` is not known to a proof afterwards.
+    // Stays a write by place, here and below: tried, and of what is written through `as_chunks_mut`, or through `iter_mut`
+    // under `zip`, a proof knows nothing afterwards.
     for (n, block) in blocks.iter().enumerate() {
         before = protect_block(cipher, &before, block);
         put_block(out, n * 16, &before);
