@@ -87,6 +87,7 @@ fn store<C: BlockCipher>(cipher: &C, vector: &[u8; 16], data: &[u8], out: &mut [
 }
 
 // Writes the data with its padding, chained behind the start vector `iv`, which is not written.
+// Stays four parameters, here and below: the ported functions', and each is lent for one call.
 pub fn encrypt_cbc<C: BlockCipher>(
     cipher: &C,
     data: &[u8],

@@ -4,6 +4,7 @@ ghost use Rattle.chained.specs.ChainedMethod.{handed_out, held_back};
 ghost use Rattle.chained.specs.Lengths.{ByLength, FourPieces};
 
 // The two laws of what is out.
+// Stays in three contracts: a law of numbers, which no value carries, and which both lengths promise.
 fn length_laws()
     ensures law { ByLength }
     ensures pieces { FourPieces }

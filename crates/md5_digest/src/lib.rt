@@ -32,6 +32,7 @@ impl From<Registers> for [u8; 16] {
 }
 
 // The mixed value and the word number of step i.
+// Stays a match on the step's number: it chooses the value and the word together, as the ported function does.
 fn choose(v: Registers, i: usize) -> (u32, usize)
     requires { i < 64 }
     ensures value { result.0 ≡ mixed i v }

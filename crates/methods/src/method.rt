@@ -28,6 +28,7 @@ pub trait CryptMethod {
         ensures { result ≡ told ((scheme self.now).size n) };
 
     // Stores the protected data at the front of `out`, and answers its length.
+    // Stays four parameters, here and in each impl: they are lent for one call, and no two of them make a value of their own.
     fn protect(
         &self,
         key: &[u8],

@@ -47,6 +47,7 @@ fn open_in<S: Series>(
 }
 
 // Opens a file with the user password. The work area, of 32 bytes or more, is all zero afterwards.
+// Stays these parameters, here and in setting up: the caller lends each for one call.
 pub fn open<S: Series>(
     series: &S,
     fields: &Fields,

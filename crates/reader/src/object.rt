@@ -22,6 +22,8 @@ pub struct Object {
 }
 
 // Protects by a method.
+// Stays a function beside `protect`, and so for the other two pairs: one takes a method and the other a target, and
+// what they share is `Keyed`. Stays these parameters: they are lent for one call.
 pub fn protect_with<M: CryptMethod>(
     file: &File,
     method: &M,

@@ -45,6 +45,7 @@ impl<S: Running> Run<S> {
     }
 
     // Takes a piece in, hands out bytes into the front of `out`, and answers their number.
+    // Stays in three contracts: `Kept` is about the run before and after a call, so no value carries it.
     pub fn feed(&mut self, piece: &[u8], out: &mut [u8]) -> Result<usize, Refusal>
         ensures fed { Fed (standing S.Running.means self.old) piece.now out.old result (standing S.Running.means self.new) out.new }
         ensures kept { Kept self.old result self.new }
