@@ -1,5 +1,4 @@
 -- Lemmas of this crate.
-pub mod Padding
 pub mod Passing
 pub mod Fitting
 pub mod Accepting

@@ -53,7 +53,7 @@ impl Version {
 #[derive(Clone, Copy)]
 pub struct Head {
     pub(crate) version: Version,
-    // Stays a number: it is judged only by `limit`, behind the tags and the length.
+    // as its field has it: `limit` judges it, behind the tags and the length
     pub(crate) r: u8,
     pub(crate) n: usize,
     pub(crate) tags: Tags,

@@ -1,7 +1,16 @@
 -- The padded password is what was written to the area's front.
-use Rattle.opening.proofs.Padding.{padded-front}
+use Rattle.std.proofs.Common.{◌≡◌, ℕ, ◌-◌, length, take, drop, ap, ◌∙◌, arith}
+use Rattle.std.proofs.lemmas.List.{take_at}
+use Rattle.byte_strings.specs.Bytes.{Bytes, Writes}
+use Rattle.keys.specs.Password.{padded}
+use Rattle.keys.proofs.Pads.{length-padded}
 use Rattle.opening.proofs.work.padded.Goals as goal
+
+front : (password old new : Bytes) (n : ℕ) → n ≡ 32 → Writes (padded password) old new → take (n - 0) new ≡ padded password
+front password old new n is w =
+    let e : n - 0 ≡ 32 = omega arith in
+    ap (λ k. take k new) e ∙ ap (take 32) w ∙ take_at (padded password) (drop (length (padded password)) old) 32 (length-padded password)
 
 pub returns : goal.returns
 returns c =
-    (c.in-Some.ensures.0, padded-front c.args.password.now c.args.area.now _ _ c.in-Some.ensures.1 c.in-Some.ensures.2)
+    (c.in-Some.ensures.0, front c.args.password.now c.args.area.now _ _ c.in-Some.ensures.1 c.in-Some.ensures.2)
