@@ -90,6 +90,7 @@ impl Rc4 {
     }
 
     // Protects the next bytes of a text: the same operation.
+    // Stays a function beside `decrypt`: both names are the crate's.
     pub fn encrypt(&mut self, input: &[u8], out: &mut [u8]) -> Option<usize>
         ensures { Applied self.old input.now out.old self.new out.new result }
     {
