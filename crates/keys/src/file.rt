@@ -34,6 +34,7 @@ fn first_digest(inputs: &Inputs, padded: &[u8]) -> [u8; 16]
 }
 
 // How often the digest is digested again.
+// Stays a match: the rule goes by the revision.
 fn turns(revision: Revision) -> usize
     ensures { result ≡ turns_of revision }
 {

@@ -70,6 +70,7 @@ fn user_password_rev34(key: &Key, id: &[u8]) -> [u8; 32]
 }
 
 // The U that the key gives.
+// Stays a match, here and below: each revision has its algorithm.
 // Stays three parameters, here and below: the other inputs of a file key are not asked for.
 pub fn user_entry(revision: Revision, id: &[u8], key: &Key) -> [u8; 32]
     ensures { result ≡ user_entry revision id.now (key_of key.now) }

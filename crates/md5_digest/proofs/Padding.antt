@@ -1,8 +1,7 @@
 -- Numbers as bytes, and the padding.
-use Rattle.std.proofs.Common.{◌≡◌, ℕ, zero, suc, ◌+◌, ◌-◌, ◌*◌, ◌/◌, ◌%◌, ◌^◌, List, [], ◌∷◌, ◌++◌, length, get_or, replicate, sym, refl, ap, ◌∙◌, ap₂, mul_assoc, pow-suc, arith, length-append}
+use Rattle.std.proofs.Common.{◌≡◌, ℕ, zero, suc, ◌+◌, ◌-◌, ◌*◌, ◌/◌, ◌%◌, ◌^◌, List, [], ◌∷◌, ◌++◌, length, replicate, sym, refl, ap, ◌∙◌, ap₂, mul_assoc, pow-suc, arith, length-append}
 use native.Mathlib.Nat.{div-div-eq-div-mul}
 use lib.ListN.{length-replicate}
-use Rattle.md5_digest.specs.declared.Registers.{Registers}
 use Rattle.md5_digest.specs.Md5.{low_bytes, padding, digest, digested, Completes, HasSixteenBytes}
 
 -- the low bytes do not see what lies above them

@@ -90,7 +90,7 @@ impl Rc4 {
     }
 
     // Protects the next bytes of a text: the same operation.
-    // Stays beside `decrypt`: both are names of the ported type.
+    // Stays a function beside `decrypt`: both are names of the ported type.
     pub fn encrypt(&mut self, input: &[u8], out: &mut [u8]) -> Option<usize>
         ensures { Applied self.old input.now out.old self.new out.new result }
     {

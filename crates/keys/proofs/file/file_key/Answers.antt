@@ -1,12 +1,11 @@
 -- The fold is the repeated digest.
-use Rattle.std.proofs.Common.{◌≡◌, ℕ, ◌-◌, fold, take, sym, refl, ap, ◌∙◌, ap₂, rules, arith}
+use Rattle.std.proofs.Common.{◌≡◌, ℕ, ◌-◌, fold, take, sym, refl, ◌∙◌, ap₂, rules, arith}
 use Rattle.std.proofs.iter.Yields.{nat_range_steps, Range-gives}
 use Rattle.std.proofs.lemmas.Fn.{fold_over}
 use Rattle.std.proofs.lemmas.List.Sums.{fold_push}
 use Rattle.std.specs.List.{range_with_len}
 use Rattle.byte_strings.specs.Bytes.{Bytes}
 use Rattle.md5_digest.specs.Md5.{md5}
-use Rattle.keys.specs.declared.key.Key.{Key}
 use Rattle.keys.specs.declared.size.KeySize.{KeySize}
 use Rattle.keys.specs.Key.{key_of}
 use Rattle.keys.specs.File.{again, file_key}

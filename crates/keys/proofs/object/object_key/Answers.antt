@@ -3,7 +3,6 @@ use Rattle.std.proofs.Common.{◌≡◌, ◌+◌, min, ◌++◌, length, take, �
 use Rattle.md5_digest.specs.Md5.{md5}
 use Rattle.keys.specs.Object.{object_bytes, salt, object_key}
 use Rattle.keys.proofs.object.object_key.Goals as goal
-use Rattle.keys.proofs.object.object_key.Goals.{then-salted, else-salted}
 
 pub returns : goal.returns
 unfolding object_key
@@ -12,6 +11,5 @@ returns c =
     let object : to_z w32 (of_z w32 c.args.object) ≡ c.args.object = search rules in
     let generation : to_z w32 (of_z w32 c.args.generation) ≡ c.args.generation = search rules in
     let five = c.object_bytes.ensures ∙ ap₂ (λ (o g : ℤ). object_bytes o g) object generation in
-    let hash : c.finish.result ≡ md5 (c.args.key.now ++ (c.object_bytes.result ++ salt c.args.salted)) = elim c.if-salted.branch [ then-salted w ↦ search rules | else-salted w ↦ search rules ] in
-    let size : c.min.result ≡ min 16 (length c.args.key.now + 5) = omega (arith, c.min.ensures) in
-    ap (λ n. take n c.finish.result) size ∙ ap (take (min 16 (length key + 5))) (hash ∙ ap (λ xs. md5 (key ++ (xs ++ salt c.args.salted))) five)
+    let size : c.min-n.result ≡ min 16 (length c.args.key.now + 5) = omega (arith, c.min-n.ensures) in
+    ap (λ n. take n c.digest.result) size ∙ ap (take (min 16 (length key + 5))) (c.digest.ensures ∙ ap (λ xs. md5 (key ++ (xs ++ salt c.args.salted))) five)

@@ -1,5 +1,5 @@
 -- The front of U is all of it where it is shorter.
-use Rattle.std.proofs.Common.{◌≡◌, length, take, ap, ◌∙◌, rules, arith}
+use Rattle.std.proofs.Common.{◌≡◌, length, take, ap, ◌∙◌, rules}
 use Rattle.std.specs.Str.{bytes_eq}
 use Rattle.keys.proofs.Pads.{bytes_eq_flip}
 use Rattle.keys.proofs.user.same_front.Goals as goal
