@@ -3,7 +3,7 @@ ghost use Rattle.std.specs.Prelude.{◌≡◌};
 ghost use Rattle.md5_digest.specs.Md5.{md5 as md5_of};
 ghost use Rattle.keys.specs.Numbers.{low_bytes_of};
 ghost use Rattle.keys.specs.Key.{key_of};
-ghost use Rattle.keys.specs.File.{read, hashed, turns as turns_of, file_key};
+ghost use Rattle.keys.specs.File.{read, hashed, again, turns as turns_of, file_key};
 
 use crate::inputs::{Inputs, Revision};
 use crate::key::Key;
@@ -55,7 +55,16 @@ fn digested(key: Key) -> Key
     }
 }
 
+// The key after that many further digests.
+fn digested_again(first: Key, turns: usize) -> Key
+    ensures bytes { result.bytes ≡ again first.size.n turns first.bytes }
+    ensures size { result.size ≡ first.size }
+{
+    (0..turns).fold(first, |key, _| digested(key))
+}
+
 // The key, from the padded password.
+#[tactic(auto, unfolding(crate::specs::File::file_key))]
 pub fn file_key(inputs: &Inputs, padded: &[u8]) -> Key
     ensures { (key_of result ≡ file_key (read inputs.now) padded.now) × (result.size ≡ inputs.now.size) }
 {
@@ -63,5 +72,5 @@ pub fn file_key(inputs: &Inputs, padded: &[u8]) -> Key
         bytes: first_digest(inputs, padded),
         size: inputs.size,
     };
-    (0..turns(inputs.revision)).fold(first, |key, _| digested(key))
+    digested_again(first, turns(inputs.revision))
 }

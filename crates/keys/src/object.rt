@@ -1,5 +1,5 @@
 // The keys of objects: Algorithm 1.
-ghost use Rattle.std.specs.Prelude.{◌≡◌, ◌++◌};
+ghost use Rattle.std.specs.Prelude.{◌≡◌, ◌+◌, min, ◌++◌, length, take};
 ghost use Rattle.md5_digest.specs.Md5.{md5 as md5_of};
 ghost use Rattle.keys.specs.Key.{key_of};
 ghost use Rattle.keys.specs.Object.{object_bytes, salt, object_key};
@@ -30,6 +30,13 @@ fn digest(key: &[u8], appended: &[u8; 5], salted: bool) -> [u8; 16]
     m.finish()
 }
 
+// The digest whose first bytes are the key.
+fn key_digest(key: &[u8], object: i32, generation: i32, salted: bool) -> [u8; 16]
+    ensures { take (min 16 (length key.now + 5)) result ≡ object_key key.now object generation salted }
+{
+    digest(key, &object_bytes(object, generation), salted)
+}
+
 // The key of an object, from the file key: five bytes longer, and 16 at most.
 // Stays a bool: the one question is whether the salt is appended.
 pub fn object_key(key: &[u8], object: i32, generation: i32, salted: bool) -> Key
@@ -37,7 +44,7 @@ pub fn object_key(key: &[u8], object: i32, generation: i32, salted: bool) -> Key
 {
     let n = (key.len() + 5).min(16);
     Key {
-        bytes: digest(key, &object_bytes(object, generation), salted),
+        bytes: key_digest(key, object, generation, salted),
         size: KeySize { n },
     }
 }

@@ -105,20 +105,29 @@ pub struct Md5 {
 }
 
 impl Md5 {
+    // A digest that has been given nothing, from these registers.
+    // Stays beside `new`, as `absorb` beside `update`: a public function has no proof written by hand, so that a wrong
+    // edit of it is refused in its source.
+    fn from_registers(chain: Registers) -> Md5
+        ensures { (rest : List ℕ) → digest_after result rest ≡ digested chain rest }
+    {
+        Md5 {
+            chain,
+            buffer: [0; 64],
+            count: 0,
+        }
+    }
+
     // A digest that has been given nothing.
     pub fn new() -> Md5
         ensures { (rest : List ℕ) → digest_after result rest ≡ md5_of rest }
     {
-        Md5 {
-            chain: Registers {
-                a: 0x67452301,
-                b: 0xefcdab89,
-                c: 0x98badcfe,
-                d: 0x10325476,
-            },
-            buffer: [0; 64],
-            count: 0,
-        }
+        Md5::from_registers(Registers {
+            a: 0x67452301,
+            b: 0xefcdab89,
+            c: 0x98badcfe,
+            d: 0x10325476,
+        })
     }
 
     // More of the open block, which may complete it.
@@ -146,8 +155,8 @@ impl Md5 {
         self.count = self.count.wrapping_add(64);
     }
 
-    // Takes the next piece of the message. Only the joining of the pieces matters.
-    pub fn update(&mut self, piece: &[u8])
+    // A piece: what the open block still takes, whole blocks, and the rest.
+    fn absorb(&mut self, piece: &[u8])
         ensures absorbs { (more : List ℕ) → absorbing self.new more ≡ absorbing self.old (piece.now ++ more) }
         ensures counts { self.new.count ≡ (self.old.count + length piece.now) % 2 ^ 64 }
         ensures digests { (rest : List ℕ) → digest_after self.new rest ≡ digest_after self.old (piece.now ++ rest) }
@@ -162,6 +171,13 @@ impl Md5 {
         self.hold(end);
     }
 
+    // Takes the next piece of the message. Only the joining of the pieces matters.
+    pub fn update(&mut self, piece: &[u8])
+        ensures { (rest : List ℕ) → digest_after self.new rest ≡ digest_after self.old (piece.now ++ rest) }
+    {
+        self.absorb(piece);
+    }
+
     // The padding and the length, which complete the last block.
     fn pad(&mut self)
         ensures { digest self.new.chain ≡ digest_after self.old [] }
@@ -169,8 +185,8 @@ impl Md5 {
         let bits = self.count.wrapping_mul(8);
         let at = (self.count % 64) as usize;
         let fill = if at < 56 { 56 - at } else { 120 - at };
-        self.update(&PADDING[0..fill]);
-        self.update(&bits.to_le_bytes());
+        self.absorb(&PADDING[0..fill]);
+        self.absorb(&bits.to_le_bytes());
     }
 
     // The digest of the pieces, joined.

@@ -36,6 +36,19 @@ fn schedule(key: &[u8]) -> [u8; 256]
     s
 }
 
+// The cipher before its first byte.
+// Stays beside `new`: a public function has no proof written by hand, so that a wrong edit of it is refused in its source.
+fn start(key: &[u8]) -> Rc4
+    requires { 0 < length key.now }
+    ensures { result ≡ keyed key.now }
+{
+    Rc4 {
+        a: 0,
+        b: 0,
+        s: schedule(key),
+    }
+}
+
 impl Rc4 {
     // The cipher under a key; none under the empty key.
     pub fn new(key: &[u8]) -> Option<Rc4>
@@ -44,11 +57,7 @@ impl Rc4 {
         if key.is_empty() {
             return None;
         }
-        Some(Rc4 {
-            a: 0,
-            b: 0,
-            s: schedule(key),
-        })
+        Some(start(key))
     }
 
     // One step of the generator, and its key byte.

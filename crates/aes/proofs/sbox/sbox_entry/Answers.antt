@@ -4,7 +4,7 @@ use Rattle.aes.specs.Field.{product}
 use Rattle.aes.specs.Sbox.{inv_sbox}
 use Rattle.aes.specs.SboxLaws.{fast_sbox, sbox_is, sbox_undone}
 use Rattle.aes.specs.Table.{rule}
-use Rattle.aes.proofs.sbox.sub_byte.Goals as goal
+use Rattle.aes.proofs.sbox.sbox_entry.Goals as goal
 
 pub returns : goal.returns
 unfolding product

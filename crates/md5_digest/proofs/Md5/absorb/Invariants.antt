@@ -1,7 +1,7 @@
 -- The blocks so far are absorbed, and the rest is to come.
 use Rattle.std.proofs.Common.{◌*◌, min, length, drop}
 use Rattle.md5_digest.proofs.Feeding.{Left, Opens}
-use Rattle.md5_digest.proofs.Md5.update.Given as goal
+use Rattle.md5_digest.proofs.Md5.absorb.Given as goal
 
 abbrev pub invariant-loop-block : goal.invariant-loop-block
 invariant-loop-block l =

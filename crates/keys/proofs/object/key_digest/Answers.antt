@@ -1,8 +1,8 @@
 -- The digest of Algorithm 1, from its parts.
-use Rattle.std.proofs.Common.{◌≡◌, ◌+◌, min, ◌++◌, length, take, ℤ, ap, ◌∙◌, ap₂, w32, to_z, of_z, rules, arith}
+use Rattle.std.proofs.Common.{◌≡◌, ◌+◌, min, ◌++◌, length, take, ℤ, ap, ◌∙◌, ap₂, w32, to_z, of_z, rules}
 use Rattle.md5_digest.specs.Md5.{md5}
 use Rattle.keys.specs.Object.{object_bytes, salt, object_key}
-use Rattle.keys.proofs.object.object_key.Goals as goal
+use Rattle.keys.proofs.object.key_digest.Goals as goal
 
 pub returns : goal.returns
 unfolding object_key
@@ -11,5 +11,4 @@ returns c =
     let object : to_z w32 (of_z w32 c.args.object) ≡ c.args.object = search rules in
     let generation : to_z w32 (of_z w32 c.args.generation) ≡ c.args.generation = search rules in
     let five = c.object_bytes.ensures ∙ ap₂ (λ (o g : ℤ). object_bytes o g) object generation in
-    let size : c.min-n.result ≡ min 16 (length c.args.key.now + 5) = omega (arith, c.min-n.ensures) in
-    ap (λ n. take n c.digest.result) size ∙ ap (take (min 16 (length key + 5))) (c.digest.ensures ∙ ap (λ xs. md5 (key ++ (xs ++ salt c.args.salted))) five)
+    ap (take (min 16 (length key + 5))) (c.digest.ensures ∙ ap (λ xs. md5 (key ++ (xs ++ salt c.args.salted))) five)

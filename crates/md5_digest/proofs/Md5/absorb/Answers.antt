@@ -1,7 +1,7 @@
 -- One block more, and what it means for the digest.
 use Rattle.std.proofs.Common.{◌≡◌, ◌-◌, ◌%◌, min, length, drop, ap, ◌∙◌, rules}
 use Rattle.md5_digest.proofs.Feeding.{block_more, digests}
-use Rattle.md5_digest.proofs.Md5.update.Goals as goal
+use Rattle.md5_digest.proofs.Md5.absorb.Goals as goal
 
 pub loop-block-preserved : goal.loop-block-preserved
 loop-block-preserved c =

@@ -4,7 +4,7 @@ use Rattle.aes.specs.Field.{product}
 use Rattle.aes.specs.Sbox.{sbox}
 use Rattle.aes.specs.SboxLaws.{fast_inv_sbox, inv_sbox_is, inv_sbox_undone}
 use Rattle.aes.specs.Table.{rule}
-use Rattle.aes.proofs.sbox.inv_sub_byte.Goals as goal
+use Rattle.aes.proofs.sbox.inv_sbox_entry.Goals as goal
 
 pub returns : goal.returns
 unfolding product
