@@ -20,6 +20,7 @@ impl<const N: usize> Schedule<N> {
     }
 
     // By the equivalent inverse cipher, under the inverse schedule.
+    // Stays beside `encrypt`: the inverse takes the keys of another schedule, from the last to the first; the rounds are shared.
     pub(crate) fn decrypt<const ROUNDS: usize>(&self, block: &[u8; 16]) -> [u8; 16]
         requires { (0 < ROUNDS) × (N ≡ ROUNDS * 4 + 4) }
         ensures { result ≡ inv_cipher self.now.words ROUNDS block.now }

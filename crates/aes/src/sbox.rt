@@ -47,6 +47,7 @@ pub fn sub_byte(b: u8) -> u8
 }
 
 // InvSubBytes of one byte, which the S-box undoes.
+// Stays beside `sub_byte`: one generic function would name the direction at each call, around the same one read of a table.
 pub fn inv_sub_byte(b: u8) -> u8
     ensures value { result ≡ inv_sbox b }
     ensures undone { sbox result ≡ b }
