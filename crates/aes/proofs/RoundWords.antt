@@ -5,7 +5,7 @@ use Rattle.std.specs.Simd.{first_chunks}
 use Rattle.aes.proofs.Chunks.{chunk_at}
 use Rattle.aes.specs.State.{sub_bytes, inv_sub_bytes, shift_rows, inv_shift_rows, mix_columns, inv_mix_columns, add_round_key}
 use Rattle.aes.specs.Words.{added, mixed}
-use Rattle.aes.specs.Directions.{substituted, shifted, columns_mixed, columns, column_mixed, column_substituted}
+use Rattle.aes.specs.Direction.{substituted, shifted, columns_mixed, columns, column_mixed, column_substituted}
 
 abbrev pub joins : Bytes → Bytes → Bytes → Bytes → Bytes
 joins a b c d = a ++ (b ++ (c ++ d))

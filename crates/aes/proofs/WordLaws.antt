@@ -8,7 +8,7 @@ use Rattle.aes.specs.Words.{packed, bytes_of, products, added, mixed}
 use Rattle.aes.specs.FieldLaws.{rotate, product_lt}
 use Rattle.aes.specs.Sbox.{sbox, inv_sbox}
 use Rattle.aes.specs.SboxLaws.{sbox-lt, inv_sbox-lt}
-use Rattle.aes.specs.Directions.{column_by, column_mixed, Rows, RowsOf}
+use Rattle.aes.specs.Direction.{column_by, column_mixed, Rows, RowsOf}
 
 pub four : {a b c d p q r t : ℕ} → a ≡ p → b ≡ q → c ≡ r → d ≡ t → ◌≡◌ {A = Bytes} (a ∷ b ∷ c ∷ d ∷ []) (p ∷ q ∷ r ∷ t ∷ [])
 four e f g h = ap₂ ◌∷◌ e (ap₂ ◌∷◌ f (ap₂ ◌∷◌ g (ap₂ ◌∷◌ h refl)))

@@ -4,7 +4,7 @@ pub mod Field
 pub mod Sbox
 pub mod State
 pub mod Words
-pub mod Directions
+pub mod Direction
 pub mod Keys
 pub mod Cipher
 pub mod CipherLaws

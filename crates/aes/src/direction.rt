@@ -1,6 +1,6 @@
 // The two directions of a round, each by its tables and its shift of the rows. A word has its lowest byte first.
 ghost use Rattle.std.specs.Prelude.{◌≡◌, Bool, true, false};
-ghost use Rattle.aes.specs.Directions.{shifted, columns, Substitutes, RowsOf};
+ghost use Rattle.aes.specs.Direction.{shifted, columns, Substitutes, RowsOf};
 ghost use Rattle.aes.specs.Words.{unpacked};
 
 use crate::sbox::{INV_S_BOX, S_BOX};
@@ -52,6 +52,7 @@ impl Direction for Forward {
 }
 
 // The direction of the equivalent inverse cipher.
+// Stays beside `Forward`, with `columns` written out: where each byte comes from is all that the two differ in.
 pub(crate) struct Inverse;
 
 impl Direction for Inverse {

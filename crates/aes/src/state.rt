@@ -1,6 +1,6 @@
 // The state as four words, one for each column, and the rounds on it.
 ghost use Rattle.std.specs.Prelude.{◌≡◌, slice_index};
-ghost use Rattle.aes.specs.Directions.{substituted, shifted, columns_mixed, column_mixed, column_substituted};
+ghost use Rattle.aes.specs.Direction.{substituted, shifted, columns_mixed, column_mixed, column_substituted};
 ghost use Rattle.aes.specs.State.{add_round_key};
 ghost use Rattle.aes.specs.Words.{bytes_of, unpacked, added};
 

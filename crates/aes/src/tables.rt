@@ -1,5 +1,5 @@
 // Words of products, a table for each row of the state: the S-box and a column of MixColumns in one (TE), and so for the inverses (TD).
-// words.rt has their rules.
+// direction.rt has their rules.
 pub(crate) const TE: [[u32; 256]; 4] = [
     [
         0xa56363c6, 0x847c7cf8, 0x997777ee, 0x8d7b7bf6, 0x0df2f2ff, 0xbd6b6bd6, 0xb16f6fde,

@@ -1,7 +1,7 @@
 -- The last round on four words is that on their bytes.
 use Rattle.std.proofs.Common.{ℕ, List, ◌∙◌, ap, [], get_or}
 use Rattle.byte_strings.specs.Bytes.{Bytes}
-use Rattle.aes.specs.Directions.{column_substituted}
+use Rattle.aes.specs.Direction.{column_substituted}
 use Rattle.aes.specs.Words.{unpacked}
 use Rattle.aes.proofs.RoundWords.{last_words}
 use Rattle.aes.proofs.state.last_round.Goals as goal

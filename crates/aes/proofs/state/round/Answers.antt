@@ -1,7 +1,7 @@
 -- A round on four words is the round on their bytes.
 use Rattle.std.proofs.Common.{ℕ, List, ◌∙◌, ap, [], get_or}
 use Rattle.byte_strings.specs.Bytes.{Bytes}
-use Rattle.aes.specs.Directions.{column_mixed}
+use Rattle.aes.specs.Direction.{column_mixed}
 use Rattle.aes.specs.Words.{unpacked}
 use Rattle.aes.proofs.RoundWords.{mixed_words}
 use Rattle.aes.proofs.state.round.Goals as goal

@@ -5,7 +5,7 @@ use Rattle.aes.specs.Cipher.{eq_inv_rounds, eq_inv_cipher}
 use Rattle.aes.specs.State.{inv_sub_bytes, inv_shift_rows, inv_mix_columns}
 use Rattle.aes.specs.Words.{unpacked}
 use Rattle.aes.proofs.EquivalentLaws.{equivalent, schedule_length}
-use Rattle.aes.proofs.EquivalentSteps.{eq_first, eq_next, eq_last}
+use Rattle.aes.proofs.EquivalentSteps.{eq_first, eq_turn, eq_last}
 use Rattle.aes.proofs.RoundKeys.{key_of, one_less, front_of, last_key}
 use Rattle.aes.proofs.keys.Schedule.decrypt.Goals as goal
 
@@ -33,8 +33,9 @@ loop-key-preserved g c =
     let l : length rest < length w / 4 = omega (arith, ap length inv.keys, length-take (length rest) (drop 1 keys), length-drop 1 keys) in
     record {
       keys = front_of w keys c.as_chunks.ensures.front rest front c.in-Some.key.now p inv.keys;
-      left = ap (eq_inv_rounds w (length front)) (c.round-state.ensures ∙ last_key w keys c.as_chunks.ensures.front rest front c.in-Some.key.now p inv.keys (inv_mix_columns (inv_shift_rows (inv_sub_bytes s))) l)
-          ∙ eq_next w (length front) s ∙ ap (λ n. eq_inv_rounds w n s) (one_less w keys c.as_chunks.ensures.front rest front c.in-Some.key.now p inv.keys) ∙ inv.left;
+      left = eq_turn w (length front) (length rest) s (unpacked c.round-state.result) (eq_inv_cipher w g.row.ROUNDS c.args.block.now)
+          (c.round-state.ensures ∙ last_key w keys c.as_chunks.ensures.front rest front c.in-Some.key.now p inv.keys (inv_mix_columns (inv_shift_rows (inv_sub_bytes s))) l)
+          (one_less w keys c.as_chunks.ensures.front rest front c.in-Some.key.now p inv.keys) inv.left;
     }
 
 pub returns : goal.returns
