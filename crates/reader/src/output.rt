@@ -1,9 +1,11 @@
 // What restoring answers.
-ghost use Rattle.std.specs.Prelude.{◌≡◌};
+ghost use Rattle.std.specs.Prelude.{◌≡◌, Some};
+ghost use Rattle.reader.specs.MarkText.{mark_text};
 ghost use Rattle.reader.specs.Output.{lifted};
 
 use methods::refusal::MethodRefusal;
 use opening::refusal::Refusal;
+use std::fmt;
 
 // How bytes came back: restored by a method, or passed on as they were since the filter is unresolved.
 #[derive(Clone, Copy)]
@@ -26,5 +28,17 @@ pub(crate) fn lift(refusal: MethodRefusal) -> Refusal
     match refusal {
         MethodRefusal::KeyLength => Refusal::KeyLength,
         MethodRefusal::TooShort => Refusal::TooShort,
+    }
+}
+
+// The mark in one word.
+impl fmt::Display for Mark {
+    ghost output = { λ x. Some (mark_text x) };
+
+    fn fmt<W: fmt::Write>(&self, f: &mut fmt::Formatter<W>) -> fmt::Result {
+        match self {
+            Mark::Restored => write!(f, "restored"),
+            Mark::Passed => write!(f, "passed"),
+        }
     }
 }
