@@ -5,7 +5,7 @@ use crate::fault::{CallError, Fault, Flaw};
 use crate::from_text::FromText;
 use crate::key::Key;
 use crate::reply::Step;
-use crate::text::{bytes_of, number_of};
+use crate::text::{bytes_of, number_of, parts};
 use byte_strings::same;
 use reader::run::Run;
 use std::alloc::Global;
@@ -24,7 +24,7 @@ pub(crate) enum Act {
 
 impl FromText for Act {
     fn from_text(heap: Global, text: &[u8]) -> Result<Act, Flaw> {
-        let words: Vec<&[u8]> = text.split(|b| *b == b':').collect(heap)?;
+        let words = parts(heap, text, b':')?;
         match words.as_slice() {
             [kind, piece, space] if same(kind, b"F") => {
                 Ok(Act::Feed(bytes_of(heap, piece)?, number_of(space)?))
@@ -39,14 +39,14 @@ impl FromText for Act {
 // What a call on a run answers, with the buffer that it wrote to.
 fn fed(run: &mut Run<DecryptorState>, piece: &[u8], mut out: Vec<u8>) -> Result<Step, CallError> {
     let answer = run.feed(piece, out.as_mut_slice());
-    let (_, out) = handed_out(answer.map(|count| (count, ())), out)?;
+    let (_, out) = handed_out(answer, out)?;
     Ok(Step::Fed(out))
 }
 
 fn closed(run: &mut Run<DecryptorState>, mut out: Vec<u8>) -> Result<Step, CallError> {
     let answer = run.close(out.as_mut_slice());
-    let (mark, out) = handed_out(answer.map(|output| (output.count, output.mark)), out)?;
-    Ok(Step::Closed(mark, out))
+    let (output, out) = handed_out(answer, out)?;
+    Ok(Step::Closed(output.mark, out))
 }
 
 impl Act {
@@ -58,7 +58,11 @@ impl Act {
                 fed(run, piece.as_slice(), out)
             }
             Act::Close(space) => closed(run, vec![in heap; BUFFER_FILL; space as usize]?),
-            Act::Ask(n) => Ok(Step::Asked(run.close_len(), run.feed_len(n), run.close_len_after(n))),
+            Act::Ask(n) => Ok(Step::Asked(
+                run.close_len(),
+                run.feed_len(n),
+                run.close_len_after(n),
+            )),
         };
         Ok(answer.unwrap_or_else(Step::Failed))
     }

@@ -2,7 +2,7 @@
 use crate::fault::Fault;
 use crate::from_text::FromText;
 use crate::key::Key;
-use crate::text::value;
+use crate::text::{parts, value};
 use std::alloc::Global;
 
 // A line, the line whose pairs it takes where it does not have its own, and where its values are stored.
@@ -23,6 +23,11 @@ impl<'a> Call<'a> {
     // The text of a pair that the call needs.
     pub(crate) fn needed_text(&self, key: Key) -> Result<&'a [u8], Fault> {
         self.text(key).ok_or(Fault::Missing(key))
+    }
+
+    // The parts of a text that the call needs.
+    pub(crate) fn needed_parts(&self, key: Key, at: u8) -> Result<Vec<&'a [u8]>, Fault> {
+        Ok(parts(self.heap, self.needed_text(key)?, at)?)
     }
 
     // The value of a text, which is that of a pair or a part of it.

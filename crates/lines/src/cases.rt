@@ -2,6 +2,7 @@
 ghost use Rattle.std.specs.Prelude.{◌≤◌, IfOk, vec_len};
 ghost use Rattle.lines.specs.Cases.{CaseParts};
 
+use crate::text::parts;
 use byte_strings::same;
 use std::alloc::{AllocError, Global};
 
@@ -9,7 +10,7 @@ use std::alloc::{AllocError, Global};
 pub fn text_lines<'a>(heap: Global, text: &'a [u8]) -> Result<Vec<&'a [u8]>, AllocError>
     ensures { IfOk result (λ v. 1 ≤ vec_len v) }
 {
-    text.split(|b| *b == b'\n').collect(heap)
+    parts(heap, text, b'\n')
 }
 
 // The call of a case, and its expected answer; the whole line, and no answer, where it has none.

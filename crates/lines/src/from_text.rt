@@ -1,7 +1,6 @@
 // The values that the text of a pair, or a part of it, stands for.
 use crate::fault::Flaw;
-use crate::text::{bytes_of, number_of, signed_of};
-use byte_strings::same;
+use crate::text::{bytes_of, named, number_of, parts, signed_of};
 use filters::table::{FilterEntry, Span};
 use opening::file::Target;
 use std::alloc::Global;
@@ -11,6 +10,7 @@ pub(crate) trait FromText: Drop + Sized {
     fn from_text(heap: Global, text: &[u8]) -> Result<Self, Flaw>;
 }
 
+// Stays an impl for each number: one for all `T: TryFrom<u64>` would overlap with those of other types.
 impl FromText for u8 {
     fn from_text(_heap: Global, text: &[u8]) -> Result<u8, Flaw> {
         number_of(text)
@@ -81,27 +81,25 @@ impl FromText for [u8; 16] {
     }
 }
 
+// The name of each method that can be handed in.
+const METHODS: [(&str, DecryptorTag); 4] = [
+    ("None", DecryptorTag::None),
+    ("V2", DecryptorTag::Rc4),
+    ("AESV2", DecryptorTag::Aes128),
+    ("AESV3", DecryptorTag::Aes256),
+];
+
 // A method by its name.
 impl FromText for DecryptorTag {
     fn from_text(_heap: Global, text: &[u8]) -> Result<DecryptorTag, Flaw> {
-        if same(text, b"None") {
-            Ok(DecryptorTag::None)
-        } else if same(text, b"V2") {
-            Ok(DecryptorTag::Rc4)
-        } else if same(text, b"AESV2") {
-            Ok(DecryptorTag::Aes128)
-        } else if same(text, b"AESV3") {
-            Ok(DecryptorTag::Aes256)
-        } else {
-            Err(Flaw::NotListed)
-        }
+        named(&METHODS, text).ok_or(Flaw::NotListed)
     }
 }
 
 // An entry of the filter table: offset and length of its name, and then of its method text.
 impl FromText for FilterEntry {
     fn from_text(heap: Global, text: &[u8]) -> Result<FilterEntry, Flaw> {
-        let numbers: Vec<&[u8]> = text.split(|b| *b == b':').collect(heap)?;
+        let numbers = parts(heap, text, b':')?;
         let [name_at, name_len, method_at, method_len] = numbers.as_slice() else {
             return Err(Flaw::NotListed);
         };

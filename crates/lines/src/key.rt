@@ -119,7 +119,10 @@ impl Key {
 
 // Whether a word of a line is a pair whose name is known.
 pub(crate) fn is_known(word: &[u8]) -> bool {
-    pair(word).is_some_and(|(name, _)| ALL.iter().any(|key| same(name, key.name().as_bytes())))
+    match pair(word) {
+        Some((name, _)) => ALL.iter().any(|key| same(name, key.name().as_bytes())),
+        None => false,
+    }
 }
 
 impl fmt::Display for Key {

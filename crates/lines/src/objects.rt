@@ -51,28 +51,43 @@ fn space(call: &Call) -> Result<Vec<u8>, Fault> {
 pub(crate) fn restore_line(call: &Call) -> Result<Reply, LineError> {
     let file = open_paper(call, Stage::Opening)?;
     let bytes: Vec<u8> = call.needed(Key::Data)?;
-    let Subject { object, target, method } = Subject::read(call)?;
+    let Subject {
+        object,
+        target,
+        method,
+    } = Subject::read(call)?;
     let mut out = space(call)?;
     let answer = match method {
         Some(m) => restore_with(&file, &m, object, bytes.as_slice(), out.as_mut_slice()),
         None => restore(&file, target, object, bytes.as_slice(), out.as_mut_slice()),
     };
-    let (mark, out) = handed_out(answer.map(|output| (output.count, output.mark)), out)?;
-    Ok(Reply::Restored(mark, out))
+    let (output, out) = handed_out(answer, out)?;
+    Ok(Reply::Restored(output.mark, out))
 }
 
 // The line `protect`.
 pub(crate) fn protect_line(call: &Call) -> Result<Reply, LineError> {
     let file = open_paper(call, Stage::Opening)?;
     let bytes: Vec<u8> = call.needed(Key::Data)?;
-    let Subject { object, target, method } = Subject::read(call)?;
+    let Subject {
+        object,
+        target,
+        method,
+    } = Subject::read(call)?;
     let iv = call.needed(Key::Iv)?;
     let mut out = space(call)?;
     let answer = match method {
         Some(m) => protect_with(&file, &m, object, &iv, bytes.as_slice(), out.as_mut_slice()),
-        None => protect(&file, target, object, &iv, bytes.as_slice(), out.as_mut_slice()),
+        None => protect(
+            &file,
+            target,
+            object,
+            &iv,
+            bytes.as_slice(),
+            out.as_mut_slice(),
+        ),
     };
-    let (_, out) = handed_out(answer.map(|count| (count, ())), out)?;
+    let (_, out) = handed_out(answer, out)?;
     Ok(Reply::Protected(out))
 }
 
@@ -81,7 +96,7 @@ pub(crate) fn run_line(call: &Call) -> Result<Reply, LineError> {
     let file = open_paper(call, Stage::Opening)?;
     let mut run = Subject::read(call)?.start(&file)?;
     let mut steps = Vec::new(call.heap);
-    for text in call.needed_text(Key::Calls)?.split(|b| *b == b';') {
+    for text in call.needed_parts(Key::Calls, b';')?.iter() {
         let act: Act = call.read(Key::Calls, text)?;
         steps.push(act.on(call.heap, &mut run)?)?;
     }

@@ -1,7 +1,7 @@
 // The calls that a line may make.
 use crate::objects::ActLine;
 use crate::primitives::Way;
-use byte_strings::same;
+use crate::text::named;
 
 #[derive(Clone, Copy)]
 pub(crate) enum Op {
@@ -49,6 +49,5 @@ const OPS: [(&str, Op); 21] = [
 
 // The call that a word names.
 pub(crate) fn op_of(word: &[u8]) -> Option<Op> {
-    let (_, op) = OPS.iter().find(|(name, _)| same(name.as_bytes(), word))?;
-    Some(*op)
+    named(&OPS, word)
 }

@@ -5,6 +5,7 @@ use crate::fault::{CallError, Fault, LineError, Stage};
 use crate::key::Key;
 use crate::reply::Reply;
 use crate::series::Shipped;
+use crate::text::parts;
 use filters::lookup::{Lookup, look_up};
 use filters::table::{FilterEntry, FilterTable};
 use opening::fields::Fields;
@@ -21,8 +22,8 @@ fn series(call: &Call) -> Result<Shipped, Fault> {
 fn entries(call: &Call) -> Result<Vec<FilterEntry>, Fault> {
     match call.text(Key::Cfe) {
         None | Some([]) => Ok(Vec::new(call.heap)),
-        Some(text) => text
-            .split(|b| *b == b',')
+        Some(text) => parts(call.heap, text, b',')?
+            .iter()
             .map(|part| call.read(Key::Cfe, part))
             .try_collect(call.heap),
     }
@@ -128,7 +129,7 @@ pub(crate) fn made(call: &Call) -> Result<Reply, LineError> {
         u.as_mut_slice(),
     );
     cleared(work.as_slice())?;
-    let (file, u) = handed_out(answer.map(|file| (32, file)), u)?;
+    let (file, u) = handed_out(answer, u)?;
     Ok(Reply::SetUp(file, u))
 }
 

@@ -11,7 +11,7 @@ use rc4::Rc4;
 // The digest of the pieces of `data`.
 pub(crate) fn digest(call: &Call) -> Result<Reply, LineError> {
     let mut m = Md5::new();
-    for text in call.needed_text(Key::Data)?.split(|b| *b == b',') {
+    for text in call.needed_parts(Key::Data, b',')?.iter() {
         let piece: Vec<u8> = call.read(Key::Data, text)?;
         m.update(piece.as_slice());
     }
@@ -21,13 +21,13 @@ pub(crate) fn digest(call: &Call) -> Result<Reply, LineError> {
 // RC4 under `key`, over the pieces of `data`.
 pub(crate) fn stream(call: &Call) -> Result<Reply, LineError> {
     let key: Vec<u8> = call.needed(Key::Key)?;
-    let text = call.needed_text(Key::Data)?;
+    let pieces = call.needed_parts(Key::Data, b',')?;
     let Some(mut cipher) = Rc4::new(key.as_slice()) else {
         return Ok(Reply::NoKey);
     };
     let mut out = Vec::new(call.heap);
-    for part in text.split(|b| *b == b',') {
-        let piece: Vec<u8> = call.read(Key::Data, part)?;
+    for text in pieces.iter() {
+        let piece: Vec<u8> = call.read(Key::Data, text)?;
         let mut room = vec![in call.heap; 0; piece.len()]?;
         let _ = cipher.decrypt(piece.as_slice(), room.as_mut_slice());
         out.extend_from_slice(room.as_slice())?;

@@ -99,7 +99,11 @@ impl fmt::Display for Line<'_, File> {
     fn fmt<W: fmt::Write>(&self, f: &mut fmt::Formatter<W>) -> fmt::Result {
         let strings = TagOf(self.0.tag(Target::String));
         let streams = TagOf(self.0.tag(Target::Stream));
-        write!(f, "ok key={} str={strings} stm={streams}", Hex(self.0.key()))
+        write!(
+            f,
+            "ok key={} str={strings} stm={streams}",
+            Hex(self.0.key())
+        )
     }
 }
 
@@ -109,7 +113,13 @@ impl fmt::Display for Line<'_, Step> {
             Step::Fed(out) => write!(f, "F:{}:{}", out.len(), Hex(out.as_slice())),
             Step::Closed(mark, out) => write!(f, "C:{mark}:{}:{}", out.len(), Hex(out.as_slice())),
             Step::Asked(closing, feeding, after) => {
-                write!(f, "Q:{}:{}:{}", Told(*closing), Told(*feeding), Told(*after))
+                write!(
+                    f,
+                    "Q:{}:{}:{}",
+                    Told(*closing),
+                    Told(*feeding),
+                    Told(*after)
+                )
             }
             Step::Failed(CallError::Refused(refusal)) => write!(f, "E:{}", refusal.number()),
             Step::Failed(CallError::WrongBuffer) => write!(f, "wrong buffer"),
@@ -148,7 +158,12 @@ impl fmt::Display for Line<'_, Reply> {
             Reply::NoMethod(name) => write!(f, "nomethod name={}", Hex(name.as_slice())),
             Reply::UnknownMethod(text) => write!(f, "unknown text={}", Hex(text.as_slice())),
             Reply::Restored(mark, out) => {
-                write!(f, "ok mark={mark} count={} out={}", out.len(), Hex(out.as_slice()))
+                write!(
+                    f,
+                    "ok mark={mark} count={} out={}",
+                    out.len(),
+                    Hex(out.as_slice())
+                )
             }
             Reply::Protected(out) => {
                 write!(f, "ok count={} out={}", out.len(), Hex(out.as_slice()))
@@ -177,7 +192,12 @@ impl fmt::Display for Record<'_, File> {
         let key = self.0.key();
         let strings = TagOf(self.0.tag(Target::String));
         let streams = TagOf(self.0.tag(Target::Stream));
-        write!(f, "a key of {} bytes, {}; strings {strings}, streams {streams}", key.len(), Hex(key))
+        write!(
+            f,
+            "a key of {} bytes, {}; strings {strings}, streams {streams}",
+            key.len(),
+            Hex(key)
+        )
     }
 }
 
@@ -187,7 +207,11 @@ impl fmt::Display for Record<'_, CallError> {
             CallError::Refused(refusal) => {
                 let value = ValueOf(", ", *refusal, " ");
                 let layer = refusal.layer();
-                write!(f, "refused: {} {refusal}, {layer} layer{value}", refusal.number())
+                write!(
+                    f,
+                    "refused: {} {refusal}, {layer} layer{value}",
+                    refusal.number()
+                )
             }
             CallError::WrongBuffer => write!(f, "left a buffer that it should not have touched"),
         }
@@ -201,7 +225,10 @@ impl fmt::Display for Record<'_, Step> {
             Step::Closed(mark, out) => write!(f, "closed; {mark}, {}", Counted(out.as_slice())),
             Step::Asked(closing, feeding, after) => {
                 let (closing, feeding, after) = (Told(*closing), Told(*feeding), Told(*after));
-                write!(f, "closing wants {closing}; feeding would hand out {feeding}, and closing after it want {after}")
+                write!(
+                    f,
+                    "closing wants {closing}; feeding would hand out {feeding}, and closing after it want {after}"
+                )
             }
             Step::Failed(error) => write!(f, "{}", Record(error)),
         }
@@ -212,7 +239,11 @@ impl fmt::Display for Record<'_, LineError> {
     fn fmt<W: fmt::Write>(&self, f: &mut fmt::Formatter<W>) -> fmt::Result {
         match self.0 {
             LineError::Malformed(fault) => write!(f, "malformed: {fault}"),
-            LineError::Failed(Stage::Opening, error @ CallError::Refused(_)) => write!(f, "opening {}", Record(error)),
+            LineError::Failed(Stage::Opening, error @ CallError::Refused(_)) => write!(
+                f,
+                "opening {}",
+                Record(error)
+            ),
             LineError::Failed(_, error) => write!(f, "{}", Record(error)),
         }
     }

@@ -1,11 +1,11 @@
 // The text of a line: its words and pairs, and the digits in their values.
-ghost use Rattle.std.specs.Prelude.{◌≡◌, length};
+ghost use Rattle.std.specs.Prelude.{◌≡◌, ◌≤◌, ◌++◌, ◌∷◌, length, vec_len, IfOk, IfSome};
 ghost use Rattle.std.specs.Iterator.{at_most};
 ghost use Rattle.lines.specs.Text.{hex_digit};
 
 use crate::fault::Flaw;
 use byte_strings::same;
-use std::alloc::Global;
+use std::alloc::{AllocError, Global};
 
 const QUOTE: u8 = b'"';
 
@@ -51,7 +51,9 @@ pub(crate) fn first_word(line: &[u8]) -> &[u8] {
 }
 
 // The name and the value of a pair.
-pub(crate) fn pair(word: &[u8]) -> Option<(&[u8], &[u8])> {
+pub(crate) fn pair(word: &[u8]) -> Option<(&[u8], &[u8])>
+    ensures { IfSome result (λ p. word.now ≡ p.0.now ++ (61 ∷ p.1.now)) }
+{
     let at = word.iter().position(|b| *b == b'=')?;
     Some((&word[..at], &word[at + 1..]))
 }
@@ -62,6 +64,19 @@ pub(crate) fn value<'a>(line: &'a [u8], name: &[u8]) -> Option<&'a [u8]> {
         let (found, value) = pair(word)?;
         same(found, name).then_some(value)
     })
+}
+
+// The parts of a text that a byte parts.
+pub(crate) fn parts<'a>(heap: Global, text: &'a [u8], at: u8) -> Result<Vec<&'a [u8]>, AllocError>
+    ensures { IfOk result (λ v. 1 ≤ vec_len v) }
+{
+    text.split(|b| *b == at).collect(heap)
+}
+
+// What a word stands for in a table of words.
+pub(crate) fn named<T: Copy>(table: &[(&'static str, T)], word: &[u8]) -> Option<T> {
+    let (_, found) = table.iter().find(|(name, _)| same(name.as_bytes(), word))?;
+    Some(*found)
 }
 
 // The value of a hexadecimal digit.
