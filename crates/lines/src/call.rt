@@ -1,5 +1,5 @@
 // A call as a line gives it, with the pairs of the paper that it belongs to.
-use crate::fault::Fault;
+use crate::fault::{Fault, Flaw};
 use crate::from_text::FromText;
 use crate::key::Key;
 use crate::text::{parts, value};
@@ -27,7 +27,7 @@ impl<'a> Call<'a> {
 
     // The parts of a text that the call needs.
     pub(crate) fn needed_parts(&self, key: Key, at: u8) -> Result<Vec<&'a [u8]>, Fault> {
-        Ok(parts(self.heap, self.needed_text(key)?, at)?)
+        parts(self.heap, self.needed_text(key)?, at).map_err(|_| Fault::Bad(key, Flaw::NoMemory))
     }
 
     // The value of a text, which is that of a pair or a part of it.

@@ -63,6 +63,7 @@ pub enum LineError {
     Failed(Stage, CallError),
 }
 
+// Stays two impls for each error: one for all errors of memory would overlap with those of other errors.
 impl From<AllocError> for Flaw {
     fn from(_e: AllocError) -> Flaw {
         Flaw::NoMemory

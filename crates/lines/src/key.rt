@@ -42,6 +42,7 @@ pub enum Key {
     Len,
 }
 
+// Stays a list beside the match of the names: by the match each case has a name, and a list of pairs says so of none.
 const ALL: [Key; 31] = [
     Key::Filter,
     Key::V,

@@ -5,7 +5,6 @@ use crate::fault::{CallError, Fault, LineError, Stage};
 use crate::key::Key;
 use crate::reply::Reply;
 use crate::series::Shipped;
-use crate::text::parts;
 use filters::lookup::{Lookup, look_up};
 use filters::table::{FilterEntry, FilterTable};
 use opening::fields::Fields;
@@ -22,7 +21,8 @@ fn series(call: &Call) -> Result<Shipped, Fault> {
 fn entries(call: &Call) -> Result<Vec<FilterEntry>, Fault> {
     match call.text(Key::Cfe) {
         None | Some([]) => Ok(Vec::new(call.heap)),
-        Some(text) => parts(call.heap, text, b',')?
+        Some(_) => call
+            .needed_parts(Key::Cfe, b',')?
             .iter()
             .map(|part| call.read(Key::Cfe, part))
             .try_collect(call.heap),

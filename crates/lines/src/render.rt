@@ -184,6 +184,7 @@ impl fmt::Display for Line<'_, Reply> {
 }
 
 // An answer, or a part of one, in words.
+// Stays beside `Line`: the two differ in every text, and not in a constant.
 #[derive(Clone, Copy)]
 pub struct Record<'a, T>(pub &'a T);
 
