@@ -4,3 +4,4 @@ pub mod Table
 pub mod Series
 pub mod Lookup
 pub mod Laws
+pub mod TagText

@@ -1,9 +1,11 @@
 // The tags of crypt methods.
 
-ghost use Rattle.std.specs.Prelude.{◌≡◌};
+ghost use Rattle.std.specs.Prelude.{◌≡◌, Some};
 ghost use Rattle.filters.specs.Tag.{standard_tag};
+ghost use Rattle.filters.specs.TagText.{tag_text};
 
 use byte_strings::same;
+use std::fmt;
 
 // The crypt method that a CFM text names.
 #[derive(Clone, Copy, PartialEq, Eq)]
@@ -34,6 +36,20 @@ impl Tag {
             Some(Tag::AESV3)
         } else {
             None
+        }
+    }
+}
+
+// The text that names the tag, `None` for no encryption.
+impl fmt::Display for Tag {
+    ghost output = { λ t. Some (tag_text t) };
+
+    fn fmt<W: fmt::Write>(&self, f: &mut fmt::Formatter<W>) -> fmt::Result {
+        match self {
+            Tag::None => write!(f, "None"),
+            Tag::V2 => write!(f, "V2"),
+            Tag::AESV2 => write!(f, "AESV2"),
+            Tag::AESV3 => write!(f, "AESV3"),
         }
     }
 }

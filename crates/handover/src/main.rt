@@ -67,23 +67,17 @@ fn show<'a>(
 fn carry_out(rt: &HostRuntime, lines: bool, text: &[u8]) -> anyhow::Result<()> {
     let heap = rt.alloc();
     let mut job = Job::new(heap);
-    let mut number: usize = 0;
-    for line in text_lines(heap, text)?.iter() {
-        number = number.saturating_add(1);
-        let reply = job.answer(heap, line);
-        show(rt, lines, number, line, &reply)?;
+    for (i, line) in text_lines(heap, text)?.iter().enumerate() {
+        let reply = job.answer(line);
+        show(rt, lines, i + 1, line, &reply)?;
     }
     Ok(())
 }
 
-fn run(rt: &HostRuntime) -> anyhow::Result<()> {
+fn main(rt: HostRuntime) -> anyhow::Result<()> {
     // what the calls below promise together, for the shipped series and methods
     promises::<Series1, Series2, DecryptorTag>();
-    let options = read_options(rt)?;
-    let text = read_job(rt, options.job)?;
-    carry_out(rt, options.lines, text.as_slice())
-}
-
-fn main(rt: HostRuntime) -> anyhow::Result<()> {
-    run(&rt)
+    let options = read_options(&rt)?;
+    let text = read_job(&rt, options.job)?;
+    carry_out(&rt, options.lines, text.as_slice())
 }

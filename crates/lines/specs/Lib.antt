@@ -3,3 +3,4 @@ pub mod Text
 pub mod Key
 pub mod Job
 pub mod Cases
+pub mod Series

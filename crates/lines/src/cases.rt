@@ -1,5 +1,5 @@
 // The text of a job and of cases, taken apart.
-ghost use Rattle.std.specs.Prelude.{◌≡◌, ◌≤◌, ◌⊎◌, [], IfOk, vec_len};
+ghost use Rattle.std.specs.Prelude.{◌≤◌, IfOk, vec_len};
 ghost use Rattle.lines.specs.Cases.{CaseParts};
 
 use crate::text::parts;
@@ -10,20 +10,15 @@ use std::alloc::{AllocError, Global};
 pub fn text_lines<'a>(heap: Global, text: &'a [u8]) -> Result<Vec<&'a [u8]>, AllocError>
     ensures { IfOk result (λ v. 1 ≤ vec_len v) }
 {
-    match parts(heap, text, b'\n') {
-        Ok(found) => Ok(found),
-        Err(_) => Err(AllocError),
-    }
+    parts(heap, text, b'\n')
 }
 
 // The call of a case, and its expected answer; the whole line, and no answer, where it has none.
 pub fn case_parts(line: &[u8]) -> (&[u8], &[u8])
     ensures { CaseParts line.now result.0.now result.1.now }
 {
-    for i in 0..line.len() {
-        if line.len() - i >= 4 && same(&line[i..i + 4], b" => ") {
-            return (&line[0..i], &line[i + 4..]);
-        }
+    match line.windows(4).position(|w| same(w, b" => ")) {
+        Some(i) => (&line[..i], &line[i + 4..]),
+        None => (line, &[]),
     }
-    (line, &[])
 }

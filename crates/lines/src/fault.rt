@@ -1,5 +1,6 @@
-// What is wrong with a line.
+// What is wrong with a line, and why one has no other answer.
 use crate::key::Key;
+use opening::refusal::Refusal;
 use std::alloc::{AllocError, AllocFailed};
 use std::fmt;
 
@@ -37,6 +38,32 @@ pub enum Fault {
     NoMemory,
 }
 
+// Why a call of the library gave nothing.
+#[derive(Clone, Copy)]
+pub enum CallError {
+    // it said no
+    Refused(Refusal),
+    // a buffer or the work area holds other bytes than it may leave
+    WrongBuffer,
+}
+
+// Which call of a line an error came from.
+#[derive(Clone, Copy)]
+pub enum Stage {
+    // the call that the line is about
+    Itself,
+    // the opening that comes before it
+    Opening,
+}
+
+// Why a line has no other answer.
+#[derive(Clone, Copy)]
+pub enum LineError {
+    Malformed(Fault),
+    Failed(Stage, CallError),
+}
+
+// Stays two impls for each error: one for all errors of memory would overlap with those of other errors.
 impl From<AllocError> for Flaw {
     fn from(_e: AllocError) -> Flaw {
         Flaw::NoMemory
@@ -58,6 +85,36 @@ impl From<AllocError> for Fault {
 impl<T: Drop> From<AllocFailed<T>> for Fault {
     fn from(_e: AllocFailed<T>) -> Fault {
         Fault::NoMemory
+    }
+}
+
+impl From<AllocError> for LineError {
+    fn from(e: AllocError) -> LineError {
+        LineError::Malformed(Fault::from(e))
+    }
+}
+
+impl<T: Drop> From<AllocFailed<T>> for LineError {
+    fn from(e: AllocFailed<T>) -> LineError {
+        LineError::Malformed(Fault::from(e))
+    }
+}
+
+impl From<Fault> for LineError {
+    fn from(fault: Fault) -> LineError {
+        LineError::Malformed(fault)
+    }
+}
+
+impl From<CallError> for LineError {
+    fn from(error: CallError) -> LineError {
+        LineError::Failed(Stage::Itself, error)
+    }
+}
+
+impl From<Refusal> for CallError {
+    fn from(refusal: Refusal) -> CallError {
+        CallError::Refused(refusal)
     }
 }
 

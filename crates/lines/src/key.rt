@@ -2,7 +2,8 @@
 ghost use Rattle.std.specs.Prelude.{◌≡◌};
 ghost use Rattle.lines.specs.Key.{name_of};
 
-use crate::text::value_if;
+use crate::text::pair;
+use byte_strings::same;
 use std::fmt;
 
 // A pair's name.
@@ -41,6 +42,7 @@ pub enum Key {
     Len,
 }
 
+// Stays a list beside the match of the names: by the match each case has a name, and a list of pairs says so of none.
 const ALL: [Key; 31] = [
     Key::Filter,
     Key::V,
@@ -118,17 +120,14 @@ impl Key {
 
 // Whether a word of a line is a pair whose name is known.
 pub(crate) fn is_known(word: &[u8]) -> bool {
-    for key in ALL {
-        if value_if(word, key.name().as_bytes()).is_some() {
-            return true;
-        }
+    match pair(word) {
+        Some((name, _)) => ALL.iter().any(|key| same(name, key.name().as_bytes())),
+        None => false,
     }
-    false
 }
 
 impl fmt::Display for Key {
     fn fmt<W: fmt::Write>(&self, f: &mut fmt::Formatter<W>) -> fmt::Result {
-        let name = self.name();
-        write!(f, "{name}")
+        write!(f, "{}", self.name())
     }
 }

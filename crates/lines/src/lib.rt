@@ -2,16 +2,19 @@
 
 #![tactic(auto)]
 
+mod act;
+mod buffer;
 mod call;
 pub mod cases;
 pub mod fault;
+mod from_text;
 pub mod job;
 pub mod key;
-mod names;
 mod objects;
 mod op;
 mod papers;
 mod primitives;
 pub mod render;
 pub mod reply;
+mod series;
 mod text;

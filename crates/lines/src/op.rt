@@ -1,10 +1,11 @@
 // The calls that a line may make.
-use crate::objects::Act;
+use crate::objects::ActLine;
 use crate::primitives::Way;
-use byte_strings::same;
+use crate::text::named;
 
 #[derive(Clone, Copy)]
 pub(crate) enum Op {
+    Paper,
     Md5,
     Rc4,
     Aes128(Way),
@@ -18,59 +19,35 @@ pub(crate) enum Op {
     Protect,
     Run,
     Start,
-    On(Act),
+    On(ActLine),
 }
 
-// The call of a primitive that a word names.
-fn primitive(word: &[u8]) -> Option<Op> {
-    if same(word, b"md5") {
-        Some(Op::Md5)
-    } else if same(word, b"rc4") {
-        Some(Op::Rc4)
-    } else if same(word, b"aes128enc") {
-        Some(Op::Aes128(Way::Encrypt))
-    } else if same(word, b"aes128dec") {
-        Some(Op::Aes128(Way::Decrypt))
-    } else if same(word, b"aes256enc") {
-        Some(Op::Aes256(Way::Encrypt))
-    } else if same(word, b"aes256dec") {
-        Some(Op::Aes256(Way::Decrypt))
-    } else if same(word, b"cbc128enc") {
-        Some(Op::Cbc128(Way::Encrypt))
-    } else if same(word, b"cbc128dec") {
-        Some(Op::Cbc128(Way::Decrypt))
-    } else if same(word, b"cbc256enc") {
-        Some(Op::Cbc256(Way::Encrypt))
-    } else if same(word, b"cbc256dec") {
-        Some(Op::Cbc256(Way::Decrypt))
-    } else {
-        None
-    }
-}
+// The word of each call.
+const OPS: [(&str, Op); 21] = [
+    ("paper", Op::Paper),
+    ("md5", Op::Md5),
+    ("rc4", Op::Rc4),
+    ("aes128enc", Op::Aes128(Way::Encrypt)),
+    ("aes128dec", Op::Aes128(Way::Decrypt)),
+    ("aes256enc", Op::Aes256(Way::Encrypt)),
+    ("aes256dec", Op::Aes256(Way::Decrypt)),
+    ("cbc128enc", Op::Cbc128(Way::Encrypt)),
+    ("cbc128dec", Op::Cbc128(Way::Decrypt)),
+    ("cbc256enc", Op::Cbc256(Way::Encrypt)),
+    ("cbc256dec", Op::Cbc256(Way::Decrypt)),
+    ("lookup", Op::LookUp),
+    ("open", Op::Open),
+    ("setup", Op::SetUp),
+    ("restore", Op::Restore),
+    ("protect", Op::Protect),
+    ("run", Op::Run),
+    ("start", Op::Start),
+    ("feed", Op::On(ActLine::Feed)),
+    ("close", Op::On(ActLine::Close)),
+    ("ask", Op::On(ActLine::Ask)),
+];
 
 // The call that a word names.
 pub(crate) fn op_of(word: &[u8]) -> Option<Op> {
-    if same(word, b"lookup") {
-        Some(Op::LookUp)
-    } else if same(word, b"open") {
-        Some(Op::Open)
-    } else if same(word, b"setup") {
-        Some(Op::SetUp)
-    } else if same(word, b"restore") {
-        Some(Op::Restore)
-    } else if same(word, b"protect") {
-        Some(Op::Protect)
-    } else if same(word, b"run") {
-        Some(Op::Run)
-    } else if same(word, b"start") {
-        Some(Op::Start)
-    } else if same(word, b"feed") {
-        Some(Op::On(Act::Feed))
-    } else if same(word, b"close") {
-        Some(Op::On(Act::Close))
-    } else if same(word, b"ask") {
-        Some(Op::On(Act::Ask))
-    } else {
-        primitive(word)
-    }
+    named(&OPS, word)
 }

@@ -1,56 +1,38 @@
 // The calls of the primitives: digests, ciphers and chaining.
-use crate::call::{Call, part_bytes};
-use crate::fault::{Fault, Flaw};
+use crate::call::Call;
+use crate::fault::LineError;
 use crate::key::Key;
 use crate::reply::Reply;
-use aes::{Aes128, Aes256, BlockCipher};
 use cbc::{decrypt_cbc, encrypt_cbc};
+use chained::keyed::KeyedCipher;
 use md5_digest::Md5;
 use rc4::Rc4;
-use std::alloc::Global;
 
 // The digest of the pieces of `data`.
-pub(crate) fn digest(heap: Global, call: &Call) -> Result<Reply, Fault> {
+pub(crate) fn digest(call: &Call) -> Result<Reply, LineError> {
     let mut m = Md5::new();
-    for text in call.pieces(heap, Key::Data)?.iter() {
-        let piece = part_bytes(heap, Key::Data, text)?;
+    for text in call.needed_parts(Key::Data, b',')?.iter() {
+        let piece: Vec<u8> = call.read(Key::Data, text)?;
         m.update(piece.as_slice());
     }
-    Ok(Reply::Out(Vec::from_slice(heap, &m.finish())?))
-}
-
-// A piece under the cipher, behind what is there.
-fn feed(heap: Global, cipher: &mut Rc4, piece: &[u8], out: &mut Vec<u8>) -> Result<(), Fault> {
-    let mut room = vec![in heap; 0; piece.len()]?;
-    let _ = cipher.decrypt(piece, room.as_mut_slice());
-    out.extend_from_slice(room.as_slice())?;
-    Ok(())
+    Ok(Reply::Out(Vec::from_slice(call.heap, &m.finish())?))
 }
 
 // RC4 under `key`, over the pieces of `data`.
-pub(crate) fn stream(heap: Global, call: &Call) -> Result<Reply, Fault> {
-    let key = call.needed(heap, Key::Key)?;
-    let pieces = call.pieces(heap, Key::Data)?;
+pub(crate) fn stream(call: &Call) -> Result<Reply, LineError> {
+    let key: Vec<u8> = call.needed(Key::Key)?;
+    let pieces = call.needed_parts(Key::Data, b',')?;
     let Some(mut cipher) = Rc4::new(key.as_slice()) else {
         return Ok(Reply::NoKey);
     };
-    let mut out = Vec::new(heap);
+    let mut out = Vec::new(call.heap);
     for text in pieces.iter() {
-        let piece = part_bytes(heap, Key::Data, text)?;
-        feed(heap, &mut cipher, piece.as_slice(), &mut out)?;
+        let piece: Vec<u8> = call.read(Key::Data, text)?;
+        let mut room = vec![in call.heap; 0; piece.len()]?;
+        let _ = cipher.decrypt(piece.as_slice(), room.as_mut_slice());
+        out.extend_from_slice(room.as_slice())?;
     }
     Ok(Reply::Out(out))
-}
-
-// Sixteen bytes of a pair.
-pub(crate) fn block(heap: Global, call: &Call, key: Key) -> Result<[u8; 16], Fault> {
-    let bytes = call.needed(heap, key)?;
-    let mut r = [0; 16];
-    if bytes.len() != 16 {
-        return Err(Fault::Bad(key, Flaw::OtherLength));
-    }
-    r.copy_from_slice(bytes.as_slice());
-    Ok(r)
 }
 
 // Which way a cipher is used.
@@ -61,79 +43,38 @@ pub(crate) enum Way {
 }
 
 // One block under a cipher.
-fn one_block<C: BlockCipher>(
-    heap: Global,
-    cipher: &C,
-    way: Way,
-    call: &Call,
-) -> Result<Reply, Fault> {
-    let input = block(heap, call, Key::Block)?;
+pub(crate) fn one_block<C: KeyedCipher>(way: Way, call: &Call) -> Result<Reply, LineError> {
+    let key: Vec<u8> = call.needed(Key::Key)?;
+    let Some(cipher) = C::with_key(key.as_slice()) else {
+        return Ok(Reply::NoKey);
+    };
+    let input = call.needed(Key::Block)?;
     let out = match way {
         Way::Encrypt => cipher.encrypt_block(&input),
         Way::Decrypt => cipher.decrypt_block(&input),
     };
-    Ok(Reply::Out(Vec::from_slice(heap, &out)?))
-}
-
-// AES-128 over one block.
-pub(crate) fn aes128(heap: Global, way: Way, call: &Call) -> Result<Reply, Fault> {
-    let key = call.needed(heap, Key::Key)?;
-    match Aes128::from_slice(key.as_slice()) {
-        Some(cipher) => one_block(heap, &cipher, way, call),
-        None => Ok(Reply::NoKey),
-    }
-}
-
-// AES-256 over one block.
-pub(crate) fn aes256(heap: Global, way: Way, call: &Call) -> Result<Reply, Fault> {
-    let key = call.needed(heap, Key::Key)?;
-    match Aes256::from_slice(key.as_slice()) {
-        Some(cipher) => one_block(heap, &cipher, way, call),
-        None => Ok(Reply::NoKey),
-    }
-}
-
-// Whether padding is removed.
-fn removes_padding(call: &Call) -> Result<bool, Fault> {
-    match call.number(Key::Unpad, 1)? {
-        Some(n) => Ok(n == 1),
-        None => Err(Fault::Missing(Key::Unpad)),
-    }
+    Ok(Reply::Out(Vec::from_slice(call.heap, &out)?))
 }
 
 // The bytes of `data`, chained under a cipher behind `iv`.
-fn chain<C: BlockCipher>(heap: Global, cipher: &C, way: Way, call: &Call) -> Result<Reply, Fault> {
-    let iv = block(heap, call, Key::Iv)?;
-    let input = call.needed(heap, Key::Data)?;
-    let mut out = vec![in heap; 0; input.len().saturating_add(16)]?;
+pub(crate) fn chain<C: KeyedCipher>(way: Way, call: &Call) -> Result<Reply, LineError> {
+    let key: Vec<u8> = call.needed(Key::Key)?;
+    let Some(cipher) = C::with_key(key.as_slice()) else {
+        return Ok(Reply::NoKey);
+    };
+    let iv = call.needed(Key::Iv)?;
+    let input: Vec<u8> = call.needed(Key::Data)?;
+    let mut out = vec![in call.heap; 0; input.len().saturating_add(16)]?;
     let count = match way {
-        Way::Encrypt => encrypt_cbc(cipher, input.as_slice(), &iv, out.as_mut_slice()),
+        Way::Encrypt => encrypt_cbc(&cipher, input.as_slice(), &iv, out.as_mut_slice()),
         Way::Decrypt => decrypt_cbc(
-            cipher,
+            &cipher,
             input.as_slice(),
             &iv,
-            removes_padding(call)?,
+            call.needed(Key::Unpad)?,
             out.as_mut_slice(),
         ),
     };
     out.truncate(count.unwrap_or(0));
     Ok(Reply::Out(out))
-}
-
-// AES-128, chained.
-pub(crate) fn cbc128(heap: Global, way: Way, call: &Call) -> Result<Reply, Fault> {
-    let key = call.needed(heap, Key::Key)?;
-    match Aes128::from_slice(key.as_slice()) {
-        Some(cipher) => chain(heap, &cipher, way, call),
-        None => Ok(Reply::NoKey),
-    }
-}
-
-// AES-256, chained.
-pub(crate) fn cbc256(heap: Global, way: Way, call: &Call) -> Result<Reply, Fault> {
-    let key = call.needed(heap, Key::Key)?;
-    match Aes256::from_slice(key.as_slice()) {
-        Some(cipher) => chain(heap, &cipher, way, call),
-        None => Ok(Reply::NoKey),
-    }
 }

@@ -1,17 +1,8 @@
 // The answer to a line.
-use crate::fault::Fault;
+use crate::fault::{CallError, LineError};
 use filters::tag::Tag;
-use opening::refusal::Refusal;
+use opening::file::File;
 use reader::output::Mark;
-
-// Which call of a line was refused.
-#[derive(Clone, Copy)]
-pub enum Stage {
-    // the call that the line is about
-    Itself,
-    // the opening that comes before it
-    Opening,
-}
 
 // The answer to one call on a run.
 #[derive(Drop)]
@@ -22,9 +13,7 @@ pub enum Step {
     Closed(Mark, Vec<u8>),
     // the closing space, what feeding a piece of the length that was asked for hands out, and the closing space after it
     Asked(Option<usize>, Option<usize>, Option<usize>),
-    Refused(Refusal),
-    // a buffer holds other bytes than the call may leave
-    WrongBuffer,
+    Failed(CallError),
 }
 
 #[derive(Drop)]
@@ -37,10 +26,10 @@ pub enum Reply {
     Out(Vec<u8>),
     // a primitive does not take the key
     NoKey,
-    // an opened file: its key, and the tags of strings and streams, none where a filter is unresolved
-    Opened(Vec<u8>, Option<Tag>, Option<Tag>),
+    // an opened file
+    Opened(File),
     // a file that was set up, and its U
-    SetUp(Vec<u8>, Option<Tag>, Option<Tag>, Vec<u8>),
+    SetUp(File, Vec<u8>),
     // a filter with its tag
     Found(Tag),
     // a filter name that the table does not list
@@ -57,10 +46,5 @@ pub enum Reply {
     Started(usize),
     // a call on such a run
     Stepped(Step),
-    // a call said no
-    Refused(Refusal, Stage),
-    // a buffer or the work area holds other bytes than the call may leave
-    WrongBuffer,
-    // the line is malformed
-    Malformed(Fault),
+    Error(LineError),
 }

@@ -8,3 +8,4 @@ pub mod Making
 pub mod Open
 pub mod SetUp
 pub mod Laws
+pub mod RefusalText

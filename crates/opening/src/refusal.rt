@@ -1,9 +1,11 @@
 // Why a call says no: one enum for all layers, each case with its number.
 
-ghost use Rattle.std.specs.Prelude.{◌≡◌};
+ghost use Rattle.std.specs.Prelude.{◌≡◌, Some};
 ghost use Rattle.opening.specs.Refusal.{number_of, layer_of, lifted};
+ghost use Rattle.opening.specs.RefusalText.{field_text, layer_text, refusal_text};
 
 use methods::refusal::MethodRefusal;
+use std::fmt;
 
 // A field of the encryption dictionary without which no file opens.
 #[derive(Clone, Copy, PartialEq, Eq)]
@@ -122,6 +124,63 @@ impl From<MethodRefusal> for Refusal {
         match refusal {
             MethodRefusal::KeyLength => Refusal::KeyLength,
             MethodRefusal::TooShort => Refusal::TooShort,
+        }
+    }
+}
+
+// The field's name in the dictionary.
+impl fmt::Display for Field {
+    ghost output = { λ x. Some (field_text x) };
+
+    fn fmt<W: fmt::Write>(&self, f: &mut fmt::Formatter<W>) -> fmt::Result {
+        match self {
+            Field::Filter => write!(f, "Filter"),
+            Field::V => write!(f, "V"),
+            Field::R => write!(f, "R"),
+            Field::StmF => write!(f, "StmF"),
+            Field::StrF => write!(f, "StrF"),
+            Field::O => write!(f, "O"),
+            Field::U => write!(f, "U"),
+            Field::P => write!(f, "P"),
+        }
+    }
+}
+
+// The layer in one word.
+impl fmt::Display for Layer {
+    ghost output = { λ x. Some (layer_text x) };
+
+    fn fmt<W: fmt::Write>(&self, f: &mut fmt::Formatter<W>) -> fmt::Result {
+        match self {
+            Layer::File => write!(f, "file"),
+            Layer::Object => write!(f, "object"),
+            Layer::Method => write!(f, "method"),
+        }
+    }
+}
+
+// The case's name, without its value.
+impl fmt::Display for Refusal {
+    ghost output = { λ x. Some (refusal_text x) };
+
+    fn fmt<W: fmt::Write>(&self, f: &mut fmt::Formatter<W>) -> fmt::Result {
+        match self {
+            Refusal::WorkSpace => write!(f, "WorkSpace"),
+            Refusal::Missing(_) => write!(f, "Missing"),
+            Refusal::NotStandard => write!(f, "NotStandard"),
+            Refusal::OtherV => write!(f, "OtherV"),
+            Refusal::BadTable(_) => write!(f, "BadTable"),
+            Refusal::ShortLength => write!(f, "ShortLength"),
+            Refusal::LateR => write!(f, "LateR"),
+            Refusal::LongLength => write!(f, "LongLength"),
+            Refusal::EarlyR => write!(f, "EarlyR"),
+            Refusal::USpace => write!(f, "USpace"),
+            Refusal::WrongPassword => write!(f, "WrongPassword"),
+            Refusal::Unresolved => write!(f, "Unresolved"),
+            Refusal::KeyLength => write!(f, "KeyLength"),
+            Refusal::Closed => write!(f, "Closed"),
+            Refusal::NoSpace => write!(f, "NoSpace"),
+            Refusal::TooShort => write!(f, "TooShort"),
         }
     }
 }

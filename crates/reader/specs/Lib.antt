@@ -4,3 +4,4 @@ pub mod Tag
 pub mod Space
 pub mod Run
 pub mod Object
+pub mod MarkText

@@ -1,4 +1,8 @@
 // What restoring answers.
+ghost use Rattle.std.specs.Prelude.{Some};
+ghost use Rattle.reader.specs.MarkText.{mark_text};
+
+use std::fmt;
 
 // How bytes came back: restored by a method, or passed on as they were since the filter is unresolved.
 #[derive(Clone, Copy)]
@@ -12,4 +16,16 @@ pub enum Mark {
 pub struct Output {
     pub mark: Mark,
     pub count: usize,
+}
+
+// The mark in one word.
+impl fmt::Display for Mark {
+    ghost output = { λ x. Some (mark_text x) };
+
+    fn fmt<W: fmt::Write>(&self, f: &mut fmt::Formatter<W>) -> fmt::Result {
+        match self {
+            Mark::Restored => write!(f, "restored"),
+            Mark::Passed => write!(f, "passed"),
+        }
+    }
 }

@@ -25,7 +25,7 @@ fn count(
 ) -> anyhow::Result<()> {
     let heap = rt.alloc();
     let (call, expected) = case_parts(line);
-    let reply = Job::new(heap).answer(heap, call);
+    let reply = Job::new(heap).answer(call);
     if matches!(reply, Reply::Quiet) {
         return Ok(());
     }
@@ -41,25 +41,17 @@ fn count(
 fn replay(rt: &HostRuntime, name: &str) -> anyhow::Result<Tally> {
     let text = fs::read(rt, name)?;
     let mut tally = Tally { cases: 0, wrong: 0 };
-    let mut number: usize = 0;
-    for line in text_lines(rt.alloc(), text.as_slice())?.iter() {
-        number = number.saturating_add(1);
-        count(rt, name, number, line, &mut tally)?;
+    for (i, line) in text_lines(rt.alloc(), text.as_slice())?.iter().enumerate() {
+        count(rt, name, i + 1, line, &mut tally)?;
     }
     Ok(tally)
 }
 
-fn run(rt: &HostRuntime) -> anyhow::Result<()> {
-    for name in env::args(rt)?.skip(1) {
-        let tally = replay(rt, name.as_str())?;
-        let cases = tally.cases;
-        let wrong = tally.wrong;
-        let file = name.as_str();
-        println!(rt; "{file}: {cases} cases, {wrong} wrong")?;
+fn main(rt: HostRuntime) -> anyhow::Result<()> {
+    for name in env::args(&rt)?.skip(1) {
+        let name = name.as_str();
+        let Tally { cases, wrong } = replay(&rt, name)?;
+        println!(rt; "{name}: {cases} cases, {wrong} wrong")?;
     }
     Ok(())
-}
-
-fn main(rt: HostRuntime) -> anyhow::Result<()> {
-    run(&rt)
 }
