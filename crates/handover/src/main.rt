@@ -12,23 +12,29 @@ use std::io::Read;
 use std::{env, fs};
 use tagged::tag::DecryptorTag;
 
+// How answers are written: one line for each and nothing else, or in words.
+#[derive(Clone, Copy)]
+enum Style {
+    Lines,
+    Words,
+}
+
 // What the words behind the program's name ask for.
 #[derive(Drop)]
 struct Options {
-    // one line for each answer, and nothing else
-    lines: bool,
+    style: Style,
     // the job; none: standard input
     job: Option<String>,
 }
 
 fn read_options(rt: &HostRuntime) -> anyhow::Result<Options> {
     let mut found = Options {
-        lines: false,
+        style: Style::Words,
         job: None,
     };
     for word in env::args(rt)?.skip(1) {
         if word.as_str() == "--lines" {
-            found.lines = true;
+            found.style = Style::Lines;
         } else {
             found.job = Some(word);
         }
@@ -47,29 +53,28 @@ fn read_job(rt: &HostRuntime, job: Option<String>) -> anyhow::Result<Vec<u8>> {
     }
 }
 
-// One answer, as a line or in words. A comment has no answer, and a paper's fields have none as a line.
+// One answer. A comment has none, and a paper's fields have none as a line.
 fn show<'a>(
     rt: &HostRuntime,
-    lines: bool,
+    style: Style,
     number: usize,
     line: &'a [u8],
     reply: &'a Reply,
 ) -> anyhow::Result<()> {
-    match reply {
-        Reply::Quiet => {}
-        Reply::Noted if lines => {}
-        _ if lines => println!(rt; "{}", Line(reply))?,
-        _ => println!(rt; "{}", Entry(number, line, reply))?,
+    match (style, reply) {
+        (_, Reply::Quiet) | (Style::Lines, Reply::Noted) => {}
+        (Style::Lines, _) => println!(rt; "{}", Line(reply))?,
+        (Style::Words, _) => println!(rt; "{}", Entry(number, line, reply))?,
     }
     Ok(())
 }
 
-fn carry_out(rt: &HostRuntime, lines: bool, text: &[u8]) -> anyhow::Result<()> {
+fn carry_out(rt: &HostRuntime, style: Style, text: &[u8]) -> anyhow::Result<()> {
     let heap = rt.alloc();
     let mut job = Job::new(heap);
     for (i, line) in text_lines(heap, text)?.iter().enumerate() {
         let reply = job.answer(line);
-        show(rt, lines, i + 1, line, &reply)?;
+        show(rt, style, i + 1, line, &reply)?;
     }
     Ok(())
 }
@@ -79,5 +84,5 @@ fn main(rt: HostRuntime) -> anyhow::Result<()> {
     promises::<Series1, Series2, DecryptorTag>();
     let options = read_options(&rt)?;
     let text = read_job(&rt, options.job)?;
-    carry_out(&rt, options.lines, text.as_slice())
+    carry_out(&rt, options.style, text.as_slice())
 }

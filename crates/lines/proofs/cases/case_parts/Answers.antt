@@ -1,5 +1,5 @@
 -- What stands before the window that is found, it itself, and what stands behind it are the line.
-use Rattle.std.proofs.Common.{◌≡◌, ℕ, ◌+◌, ◌-◌, true, ◌++◌, length, take, drop, codes, sym, ap, ◌∙◌, ap₂, inl, take-append-drop, rules}
+use Rattle.std.proofs.Common.{◌≡◌, ℕ, ◌+◌, ◌-◌, true, ◌++◌, length, take, drop, codes, sym, ap, ◌∙◌, ap₂, take-append-drop, rules}
 use Rattle.std.specs.Str.{bytes_eq}
 use Rattle.std.proofs.lemmas.Slice.Eq.{bytes_eq-Decides}
 use Rattle.std.proofs.lemmas.List.{take_rest, drop-drop}
@@ -19,4 +19,4 @@ parted line mid i e =
 pub returns-in-Some : goal.returns-in-Some
 returns-in-Some c =
     let found : take 4 (drop c.in-Some.i c.args.line.now) ≡ codes " => " = search (rules, same_is) in
-    inl (parted c.args.line.now (codes " => ") c.in-Some.i found)
+    parted c.args.line.now (codes " => ") c.in-Some.i found
