@@ -113,6 +113,7 @@ fn protect_and_restore<M: CryptMethod>(
 }
 
 // Sets a paper up, protects bytes in it by a method, opens it and restores them.
+// Stays the password and the buffers apart: they are lent for one call, the buffers to be written.
 pub fn round_trip<S: Series, M: CryptMethod>(
     series: &S,
     settings: Settings,

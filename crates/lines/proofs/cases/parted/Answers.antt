@@ -4,7 +4,7 @@ use Rattle.std.specs.Str.{bytes_eq}
 use Rattle.std.proofs.lemmas.Slice.Eq.{bytes_eq-Decides}
 use Rattle.std.proofs.lemmas.List.{take_rest, drop-drop}
 use Rattle.byte_strings.specs.Bytes.{Bytes}
-use Rattle.lines.proofs.cases.case_parts.Goals as goal
+use Rattle.lines.proofs.cases.parted.Goals as goal
 
 same_is : (xs ys : Bytes) → true ≡ bytes_eq xs ys → xs ≡ ys
 same_is xs ys e = let d = bytes_eq-Decides xs ys in search rules
@@ -16,7 +16,7 @@ parted line mid i e =
     let behind : drop 4 (drop i line) ≡ take (length line - (i + 4)) (drop (i + 4) line) = drop-drop 4 i line ∙ sym (take_rest line (i + 4)) in
     sym (take-append-drop i line) ∙ ap (λ t. take i line ++ t) (rest ∙ ap₂ ◌++◌ e behind)
 
-pub returns-in-Some : goal.returns-in-Some
-returns-in-Some c =
-    let found : take 4 (drop c.in-Some.i c.args.line.now) ≡ codes " => " = search (rules, same_is) in
-    parted c.args.line.now (codes " => ") c.in-Some.i found
+pub returns : goal.returns
+returns c =
+    let found : take 4 (drop c.in_ok-i.i c.args.line.now) ≡ codes " => " = search (rules, same_is) in
+    parted c.args.line.now (codes " => ") c.in_ok-i.i found
