@@ -20,7 +20,7 @@ impl<const N: usize> Schedule<N> {
     }
 
     // By the equivalent inverse cipher, under the inverse schedule.
-    // Stays beside `encrypt`: it takes another schedule in the other order, and the rounds of both are one function.
+    // Stays beside `encrypt`: what is left of the two is another schedule in the other order; the rounds are one function.
     pub(crate) fn decrypt<const ROUNDS: usize>(&self, block: &[u8; 16]) -> [u8; 16]
         requires { (0 < ROUNDS) × (N ≡ ROUNDS * 4 + 4) }
         ensures { result ≡ inv_cipher self.now.words ROUNDS block.now }

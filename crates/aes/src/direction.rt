@@ -52,7 +52,7 @@ impl Direction for Forward {
 }
 
 // The direction of the equivalent inverse cipher.
-// Stays beside `Forward`, with `columns` written out: where each byte comes from is all that the two differ in.
+// Stays beside `Forward`: the tables differ, and the place that each byte comes from, which a shared shift would compute.
 pub(crate) struct Inverse;
 
 impl Direction for Inverse {

@@ -24,7 +24,7 @@ fn sub_word(w: &[u8; 4]) -> [u8; 4]
 }
 
 // What is added to word i - nk, from word i - 1.
-// Stays in four contracts, here and below, that nk is not 0: nk and i are the key expansion's own numbers.
+// Stays in four contracts, here and below, that nk is not 0: it is told together with how nk bounds i and N.
 fn mask(before: &[u8; 4], nk: usize, i: usize) -> [u8; 4]
     requires { (0 < nk) × ((nk ≤ i) × (i < 11 * nk)) }
     ensures { result ≡ word (mask nk i before.now) }

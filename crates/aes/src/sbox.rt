@@ -38,8 +38,7 @@ pub(crate) const INV_S_BOX: [u8; 256] = *b"\
     \xa0\xe0\x3b\x4d\xae\x2a\xf5\xb0\xc8\xeb\xbb\x3c\x83\x53\x99\x61\
     \x17\x2b\x04\x7e\xba\x77\xd6\x26\xe1\x69\x14\x63\x55\x21\x0c\x7d";
 
-// Stays a function below `sub_byte`, and so for the inverse: a public function has no proof written by hand, so that a
-// wrong edit of it is refused in its source.
+// Stays below `sub_byte`, as the next below `inv_sub_byte`: a public function has no proof written by hand.
 fn sbox_entry(b: u8) -> u8
     ensures value { result ≡ sbox b }
     ensures undone { inv_sbox result ≡ b }
@@ -63,7 +62,7 @@ pub fn sub_byte(b: u8) -> u8
 }
 
 // InvSubBytes of one byte, which the S-box undoes.
-// Stays beside `sub_byte`: each is one look into its own table, and promises what the other undoes.
+// Stays beside `sub_byte`: each is one look into its own table, and promises that the other undoes it.
 pub fn inv_sub_byte(b: u8) -> u8
     ensures value { result ≡ inv_sbox b }
     ensures undone { sbox result ≡ b }

@@ -42,9 +42,9 @@ placed a n xs ys b e =
 pub drops : (n : ℕ) (x : Bytes) → drop ((n + 1) * 16) x ≡ drop 16 (drop (n * 16) x)
 drops n x = let e : (n + 1) * 16 ≡ n * 16 + 16 = omega arith in ap (λ (k : ℕ). drop k x) e ∙ sym (drop-drop 16 (n * 16) x)
 
--- the front of a block written at a
-pub placed_front : (a n : ℕ) (xs ys b : Bytes) → ys ≡ take (n - 0) b → put_mid a (a + n - a) xs ys ≡ take a xs ++ (take n b ++ drop (a + n) xs)
-placed_front a n xs ys b e = let m : n - 0 ≡ n = omega arith in placed a n xs ys (take n b) (e ∙ ap (λ (k : ℕ). take k b) m)
+-- bytes at a place, where their number is known
+pub put-long : (a n k : ℕ) (xs b new : Bytes) → a ≡ k → length b ≡ n → new ≡ take a xs ++ (b ++ drop (a + length b) xs) → new ≡ take k xs ++ (b ++ drop (k + n) xs)
+put-long a n k xs b new at long is = is ∙ ap₂ (λ (i j : ℕ). take i xs ++ (b ++ drop (i + j) xs)) at long
 
 -- everything behind the first block
 pub behind : (x : Bytes) → take (length x - 16) (drop 16 x) ≡ drop 16 x

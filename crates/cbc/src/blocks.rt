@@ -10,17 +10,10 @@ pub(crate) fn xor_blocks(a: &[u8; 16], b: &[u8; 16]) -> [u8; 16]
     array::from_fn(|i| a[i] ^ b[i])
 }
 
-// Writes the first n bytes of a block.
-pub(crate) fn put_front(out: &mut [u8], at: usize, block: &[u8; 16], n: usize)
-    requires { (n ≤ 16) × (at + n ≤ length out.old) }
-    ensures { out.new ≡ take at out.old ++ (take n block.now ++ drop (at + n) out.old) }
+// Writes bytes at a place.
+pub(crate) fn put(out: &mut [u8], at: usize, bytes: &[u8])
+    requires { at + length bytes.now ≤ length out.old }
+    ensures { out.new ≡ take at out.old ++ (bytes.now ++ drop (at + length bytes.now) out.old) }
 {
-    out[at..at + n].copy_from_slice(&block[0..n]);
-}
-
-pub(crate) fn put_block(out: &mut [u8], at: usize, block: &[u8; 16])
-    requires { at + 16 ≤ length out.old }
-    ensures { out.new ≡ take at out.old ++ (block.now ++ drop (at + 16) out.old) }
-{
-    out[at..at + 16].copy_from_slice(block);
+    out[at..at + bytes.len()].copy_from_slice(bytes);
 }

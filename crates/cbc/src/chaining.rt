@@ -4,7 +4,7 @@ ghost use Rattle.byte_strings.specs.Bytes.{Writes};
 ghost use Rattle.cbc.specs.Blocks.{xor_blocks};
 ghost use Rattle.cbc.specs.Chaining.{padded_length, encrypted, complete_length, decrypted, removed, protected, stored_length, restored, Written, RoundTrip};
 
-use crate::blocks::{put_block, put_front, xor_blocks};
+use crate::blocks::{put, xor_blocks};
 use crate::pad::{padded_block, padding};
 use aes::BlockCipher;
 
@@ -30,14 +30,13 @@ fn chain<C: BlockCipher>(cipher: &C, data: &[u8], iv: &[u8; 16], out: &mut [u8])
 {
     let (blocks, rest) = data.as_chunks::<16>();
     let mut before = *iv;
-    // Stays a write by place, here and below: tried, and of what is written through `as_chunks_mut`, or through `iter_mut`
-    // under `zip`, a proof knows nothing afterwards.
+    // Stays a write by place, here and below: of what `as_chunks_mut`, or `iter_mut` under `zip`, wrote no proof was found.
     for (n, block) in blocks.iter().enumerate() {
         before = protect_block(cipher, &before, block);
-        put_block(out, n * 16, &before);
+        put(out, n * 16, &before);
     }
     let last = protect_block(cipher, &before, &padded_block(rest));
-    put_block(out, blocks.len() * 16, &last);
+    put(out, blocks.len() * 16, &last);
 }
 
 // How many bytes of the last block go.
@@ -66,13 +65,13 @@ fn unchain<C: BlockCipher>(
     let mut before = *iv;
     for (n, block) in front.iter().enumerate() {
         let plain = restore_block(cipher, &before, block);
-        put_block(out, n * 16, &plain);
+        put(out, n * 16, &plain);
         before = *block;
     }
     let plain = restore_block(cipher, &before, last);
     let kept = 16 - removed_from(&plain, unpad);
     let at = front.len() * 16;
-    put_front(out, at, &plain, kept);
+    put(out, at, &plain[..kept]);
     at + kept
 }
 
@@ -82,12 +81,12 @@ fn store<C: BlockCipher>(cipher: &C, vector: &[u8; 16], data: &[u8], out: &mut [
     ensures writes { Writes (protected (C.permutation cipher.now) vector.now «data».now) out.old out.new }
     ensures law { RoundTrip (C.permutation cipher.now) vector.now «data».now }
 {
-    put_block(out, 0, vector);
+    put(out, 0, vector);
     chain(cipher, data, vector, &mut out[16..]);
 }
 
 // Writes the data with its padding, chained behind the start vector `iv`, which is not written.
-// Stays four parameters, here and below: the ported functions', and each is lent for one call.
+// Stays four parameters, here and below: they are the ported functions' own.
 pub fn encrypt_cbc<C: BlockCipher>(
     cipher: &C,
     data: &[u8],

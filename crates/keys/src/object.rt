@@ -9,7 +9,7 @@ use crate::size::KeySize;
 use md5_digest::Md5;
 
 // What is appended to the file key.
-// Stays two numbers, here and below: Algorithm 1 takes them so, and the object of two numbers is a type of the reader.
+// Stays two numbers, here and below: a type of the two is the reader's, which is above, and here they are only taken apart.
 fn object_bytes(object: i32, generation: i32) -> [u8; 5]
     ensures { result ≡ object_bytes object generation }
 {

@@ -56,6 +56,7 @@ impl Job {
             line,
             paper: self.paper.as_slice(),
         };
+        // Stays a match: it is the one table of the lines' functions, which have no common parameters.
         match op {
             Op::Paper => {
                 self.paper = Vec::from_slice(self.heap, line)?;

@@ -42,7 +42,7 @@ pub enum Key {
     Len,
 }
 
-// Stays a list beside the match of the names: by the match each case has a name, and a list of pairs says so of none.
+// Stays a list beside the match of the names: the match is checked to name every case, and a list of pairs would not be.
 const ALL: [Key; 31] = [
     Key::Filter,
     Key::V,

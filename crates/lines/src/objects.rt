@@ -12,6 +12,7 @@ use reader::run::Run;
 use tagged::tag::{DecryptorState, DecryptorTag};
 
 // What of a file a line is about, and the method that is handed in, if one is.
+// Stays asked for the method in three functions: the calls by method and by tag that they choose from are three pairs.
 #[derive(Clone, Copy)]
 struct Subject {
     object: Object,
@@ -114,6 +115,7 @@ pub(crate) fn start_line(
 }
 
 // A line `feed`, `close` or `ask`.
+// Stays beside `Act`: it is the line's word alone, before its texts are read.
 #[derive(Clone, Copy)]
 pub(crate) enum ActLine {
     Feed,

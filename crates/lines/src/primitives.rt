@@ -36,6 +36,7 @@ pub(crate) fn stream(call: &Call) -> Result<Reply, LineError> {
 }
 
 // Which way a cipher is used.
+// Stays an enum that one block and a chain match on: the two ways of a cipher are two functions with other parameters.
 #[derive(Clone, Copy)]
 pub(crate) enum Way {
     Encrypt,

@@ -24,7 +24,8 @@ pub enum Reply {
     Noted,
     // bytes that a primitive gave
     Out(Vec<u8>),
-    // a primitive does not take the key
+    // A primitive does not take the key.
+    // Stays an answer, and no error: the format has `none` among the answers of a primitive.
     NoKey,
     // an opened file
     Opened(File),

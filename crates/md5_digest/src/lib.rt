@@ -106,8 +106,7 @@ pub struct Md5 {
 
 impl Md5 {
     // A digest that has been given nothing, from these registers.
-    // Stays beside `new`, as `absorb` beside `update`: a public function has no proof written by hand, so that a wrong
-    // edit of it is refused in its source.
+    // Stays below `new`, as `absorb` below `update`: a public function has no proof written by hand.
     fn from_registers(chain: Registers) -> Md5
         ensures { (rest : List ℕ) → digest_after result rest ≡ digested chain rest }
     {

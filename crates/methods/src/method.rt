@@ -28,7 +28,7 @@ pub trait CryptMethod {
         ensures { result ≡ told ((scheme self.now).size n) };
 
     // Stores the protected data at the front of `out`, and answers its length.
-    // Stays four parameters, here and in each impl: they are lent for one call, and no two of them make a value of their own.
+    // Stays four parameters, here and in each impl: a struct of them would be made and taken apart at every call.
     fn protect(
         &self,
         key: &[u8],

@@ -53,7 +53,7 @@ impl Version {
 #[derive(Clone, Copy)]
 pub struct Head {
     pub(crate) version: Version,
-    // as its field has it: `limit` judges it, behind the tags and the length
+    // Stays a number, as its field has it: `limit` judges it, behind the tags and the length.
     pub(crate) r: u8,
     pub(crate) n: usize,
     pub(crate) tags: Tags,
@@ -111,6 +111,7 @@ fn tags<S: Series>(series: &S, fields: &Fields, version: Version) -> Result<Tags
 }
 
 // The checks from Filter to the key's length.
+// Stays in three contracts, here and below, that n is not 0: the definition of the checks, too, makes a `Head`, with no proof.
 pub(crate) fn admit<S: Series>(series: &S, fields: &Fields) -> Result<Head, Refusal>
     ensures is { result ≡ admitted (S.meaning series.now) fields.now }
     ensures some { IfOk result (λ h. 1 ≤ h.n) }

@@ -26,6 +26,7 @@ fn authenticate(head: Head, inputs: &Inputs, padded: &[u8], u: &[u8]) -> Result<
 }
 
 // The checks in their order, and then that of U. The padded password is left in the area.
+// Stays beside `set_up_in`, with the four steps of both: each shows the order of its checks, with U or without.
 fn open_in<S: Series>(
     series: &S,
     fields: &Fields,
@@ -47,7 +48,7 @@ fn open_in<S: Series>(
 }
 
 // Opens a file with the user password. The work area, of 32 bytes or more, is all zero afterwards.
-// Stays these parameters, here and in setting up: the caller lends each for one call.
+// Stays with its parameters apart, as setting up: a struct of them would be made for this one call.
 pub fn open<S: Series>(
     series: &S,
     fields: &Fields,

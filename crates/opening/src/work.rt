@@ -26,8 +26,6 @@ impl Drop for WorkArea<'_> {
 pub(crate) fn padded<'a>(password: &[u8], area: &'a mut [u8]) -> Result<&'a [u8], Refusal>
     ensures { MatchResult result (λ p. (32 ≤ length area.old) × (p.now ≡ padded password.now)) (λ e. (length area.old < 32) × (e ≡ WorkSpace)) }
 {
-    let Some(n) = pad_password(password, area) else {
-        return Err(Refusal::WorkSpace);
-    };
+    let n = pad_password(password, area).ok_or(Refusal::WorkSpace)?;
     Ok(&area[0..n])
 }

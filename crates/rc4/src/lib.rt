@@ -37,7 +37,7 @@ fn schedule(key: &[u8]) -> [u8; 256]
 }
 
 // The cipher before its first byte.
-// Stays beside `new`: a public function has no proof written by hand, so that a wrong edit of it is refused in its source.
+// Stays below `new`: a public function has no proof written by hand.
 fn start(key: &[u8]) -> Rc4
     requires { 0 < length key.now }
     ensures { result ≡ keyed key.now }

@@ -22,8 +22,7 @@ pub struct Object {
 }
 
 // Protects by a method.
-// Stays a function beside `protect`, and so for the other two pairs: one takes a method and the other a target, and
-// what they share is `Keyed`. Stays these parameters: they are lent for one call.
+// Stays beside `protect`, with its parameters apart, as the other pairs: what the calls by method and by tag share is `Keyed`.
 pub fn protect_with<M: CryptMethod>(
     file: &File,
     method: &M,

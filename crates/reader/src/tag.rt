@@ -20,6 +20,7 @@ pub(crate) fn method_of(tag: Option<Tag>) -> DecryptorTag
 }
 
 // How bytes come back under a tag.
+// Stays beside `method_of`, and no From: the two say together what a tag stands for.
 pub(crate) fn mark_of(tag: Option<Tag>) -> Mark
     ensures { result ≡ mark_for tag }
 {

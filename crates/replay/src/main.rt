@@ -31,7 +31,7 @@ fn count(
     }
     tally.cases = tally.cases.saturating_add(1);
     let said = format!(in heap; "{}", Line(&reply))?;
-    if Some(said.as_bytes()) != expected {
+    if said.as_bytes() != expected.unwrap_or(&[]) {
         tally.wrong = tally.wrong.saturating_add(1);
         println!(rt; "{name}, line {number}: {said}")?;
     }

@@ -13,8 +13,7 @@ pub enum OneOf<N, R, S, L> {
     Aes256(L),
 }
 
-// Stays a match for each answer: the four states are of different types, and a function may not hand one of them out
-// as a dyn.
+// Stays a match for each answer: the four states are of different types, and no function may hand one out as a dyn.
 impl<N: Running, R: Running, S: Running, L: Running> Running for OneOf<N, R, S, L> {
     ghost means = { one_means N.Running.means R.Running.means S.Running.means L.Running.means };
 

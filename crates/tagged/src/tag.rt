@@ -33,7 +33,7 @@ pub type DecryptorState = OneOf<
     ChainedState<Aes256>,
 >;
 
-// Stays beside the one for AES-256: `Chained::new` is the generic function of both.
+// Stays beside the one for AES-256: each names a method that six answers ask for, by one call of a generic function.
 fn aes128() -> Chained<Aes128>
     ensures { result.kind ≡ Salted }
 {

@@ -90,7 +90,7 @@ framed_comes_back v d e =
     ap (λ b. cond b None (Some (strip (drop 16 (stored_form v d))))) (le-ltb _ _ (omega (arith, long)))
     ∙ ap Some (ap strip (drop_at v (d ++ 128 ∷ []) 16 e) ∙ strip_append d 128 [] ∙ append-nil d)
 
--- the last byte apart
+-- a list of one byte
 strip_one : (b : ℕ) → b ≡ 128 → strip (b ∷ []) ≡ []
 strip_one b e = ap (λ t. cond t [] (b ∷ [])) (eq-eqb b 128 e)
 

@@ -43,6 +43,7 @@ pub struct Pair {
 }
 
 // Sets a paper up and opens it with its U. Its strings and streams have the filter `StdCF`, whose method is AESV2.
+// Stays with a match like the next function's: each shows of its own call that no refusal but for space is left.
 fn set_up_and_open<S: Series, M: CryptMethod>(
     series: &S,
     settings: Settings,
@@ -113,7 +114,7 @@ fn protect_and_restore<M: CryptMethod>(
 }
 
 // Sets a paper up, protects bytes in it by a method, opens it and restores them.
-// Stays the password and the buffers apart: they are lent for one call, the buffers to be written.
+// Stays with password and buffers apart: a struct of them would be made for this one call.
 pub fn round_trip<S: Series, M: CryptMethod>(
     series: &S,
     settings: Settings,

@@ -25,7 +25,7 @@ pub struct Turns {
 }
 
 // Feeds the first, feeds the second, closes the first and then the second.
-// Stays two pieces and four buffers: of slices inside a struct a proof does not learn that their elements are bytes.
+// Stays two pieces and four buffers apart: of a slice inside a struct a proof does not learn that its elements are bytes.
 fn take_turns<M: CryptMethod>(
     first: &mut Run<DecryptorState>,
     second: &mut Run<M::State>,

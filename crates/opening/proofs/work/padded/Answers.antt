@@ -1,8 +1,8 @@
 -- The padded password is what was written to the area's front.
-use Rattle.std.proofs.Common.{◌≡◌, ℕ, ◌-◌, length, take, drop, ap, ◌∙◌, arith}
+use Rattle.std.proofs.Common.{◌≡◌, ℕ, ◌-◌, length, take, drop, ap, ◌∙◌, subst, arith}
 use Rattle.std.proofs.lemmas.List.{take_at}
 use Rattle.byte_strings.specs.Bytes.{Bytes, Writes}
-use Rattle.keys.specs.Password.{padded}
+use Rattle.keys.specs.Password.{padded, Padded}
 use Rattle.keys.proofs.Pads.{length-padded}
 use Rattle.opening.proofs.work.padded.Goals as goal
 
@@ -13,4 +13,5 @@ front password old new n is w =
 
 pub returns : goal.returns
 returns c =
-    (c.in-Some.ensures.0, front c.args.password.now c.args.area.now _ _ c.in-Some.ensures.1 c.in-Some.ensures.2)
+    let is = subst (λ o. Padded c.args.password.now c.args.area.now o c.pad_password.new.area) c.in_ok-n.ensures.ok_part c.pad_password.ensures in
+    (is.0, front c.args.password.now c.args.area.now _ _ is.1 is.2)

@@ -3,7 +3,7 @@ use Rattle.std.proofs.Common.{subst}
 use Rattle.filters.specs.Series.{first_tag}
 use Rattle.filters.specs.Tag.{standard_tag}
 use Rattle.opening.specs.Open.{Opens}
-use Rattle.usage.proofs.both_series.open_in_both.Goals as goal
+use Rattle.usage.proofs.both_series.open_in_turn.Goals as goal
 
 pub returns : goal.returns
 returns g c =
