@@ -28,7 +28,8 @@ fn padding_by(block: &[u8; 16], last: u8) -> usize
     if all_are(end, last) { k } else { 0 }
 }
 
-// How many bytes of padding the block ends in; 0 where its bytes do not bear out what the last one tells.
+// How many bytes of padding the block ends in: as many as its last byte says, or 0 where that is no number from 1 to 16 or
+// not all of so many bytes are equal to it.
 // Stays a number: the callers subtract it, and 0 is what they would make of none.
 pub fn padding(block: &[u8; 16]) -> usize
     ensures { result ≡ padding_of block.now }

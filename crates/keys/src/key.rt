@@ -15,6 +15,7 @@ pub struct Key {
 
 impl Key {
     // The bytes of the key.
+    // Stays in three contracts, with those of a size and of a file's key: each is a promise to its own callers.
     pub fn as_bytes(&self) -> &[u8]
         ensures value { result.now ≡ key_of self.now }
         ensures some { 1 ≤ length result.now }

@@ -45,7 +45,7 @@ fn repeat(key: &Key, digest: &[u8; 16]) -> [u8; 16]
     ensures { result ≡ repeated (key_of key.now) 19 digest.now }
 {
     let mut x = encrypted(key, digest);
-    // Stays a loop over the turn's number, which is a part of the key: nothing is inferred of a closure that returns an array.
+    // Stays a loop over the turn's number, a part of the key: nothing is inferred of a closure that returns an array.
     for i in 1..20 {
         x = turn(key, i, &x);
     }

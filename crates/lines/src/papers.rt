@@ -93,6 +93,7 @@ impl Paper {
 }
 
 // Opens the paper of a line, of which that is the given stage.
+// Stays with four readings that setting up has, too: what is read is lent to another call there, beside a buffer for U.
 pub(crate) fn open_paper(call: &Call, stage: Stage) -> Result<File, LineError> {
     let series = series(call)?;
     let paper = Paper::read(call)?;

@@ -1,6 +1,6 @@
 // The calls of the primitives: digests, ciphers and chaining.
 use crate::call::Call;
-use crate::fault::LineError;
+use crate::fault::{Fault, LineError};
 use crate::key::Key;
 use crate::reply::Reply;
 use cbc::{decrypt_cbc, encrypt_cbc};
@@ -43,10 +43,15 @@ pub(crate) enum Way {
     Decrypt,
 }
 
+// The cipher under the key of the call, if it takes the key.
+fn cipher<C: KeyedCipher>(call: &Call) -> Result<Option<C>, Fault> {
+    let key: Vec<u8> = call.needed(Key::Key)?;
+    Ok(C::with_key(key.as_slice()))
+}
+
 // One block under a cipher.
 pub(crate) fn one_block<C: KeyedCipher>(way: Way, call: &Call) -> Result<Reply, LineError> {
-    let key: Vec<u8> = call.needed(Key::Key)?;
-    let Some(cipher) = C::with_key(key.as_slice()) else {
+    let Some(cipher) = cipher::<C>(call)? else {
         return Ok(Reply::NoKey);
     };
     let input = call.needed(Key::Block)?;
@@ -59,8 +64,7 @@ pub(crate) fn one_block<C: KeyedCipher>(way: Way, call: &Call) -> Result<Reply, 
 
 // The bytes of `data`, chained under a cipher behind `iv`.
 pub(crate) fn chain<C: KeyedCipher>(way: Way, call: &Call) -> Result<Reply, LineError> {
-    let key: Vec<u8> = call.needed(Key::Key)?;
-    let Some(cipher) = C::with_key(key.as_slice()) else {
+    let Some(cipher) = cipher::<C>(call)? else {
         return Ok(Reply::NoKey);
     };
     let iv = call.needed(Key::Iv)?;

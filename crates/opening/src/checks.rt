@@ -111,7 +111,7 @@ fn tags<S: Series>(series: &S, fields: &Fields, version: Version) -> Result<Tags
 }
 
 // The checks from Filter to the key's length.
-// Stays in three contracts, here and below, that n is not 0: the definition of the checks, too, makes a `Head`, with no proof.
+// Stays in three contracts, here and below, that n is not 0: the definition of the checks makes a `Head` without a proof.
 pub(crate) fn admit<S: Series>(series: &S, fields: &Fields) -> Result<Head, Refusal>
     ensures is { result ≡ admitted (S.meaning series.now) fields.now }
     ensures some { IfOk result (λ h. 1 ≤ h.n) }

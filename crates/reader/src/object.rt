@@ -22,7 +22,7 @@ pub struct Object {
 }
 
 // Protects by a method.
-// Stays beside `protect`, with its parameters apart, as the other pairs: what the calls by method and by tag share is `Keyed`.
+// Stays beside `protect`, with its parameters apart, as the other pairs: what the two of a pair share is `Keyed`.
 pub fn protect_with<M: CryptMethod>(
     file: &File,
     method: &M,

@@ -62,7 +62,7 @@ impl<S: Running> Run<S> {
         self.call(Event::Close, out)
     }
 
-    // What happens hangs on the state and the event together.
+    // What happens depends on the state and the event together.
     fn call(&mut self, event: Event<'_>, out: &mut [u8]) -> Result<Output, Refusal>
         ensures called { Called event.entry (standing S.Running.means self.old) out.old result (standing S.Running.means self.new) out.new }
         ensures kept { Kept self.old result self.new }
