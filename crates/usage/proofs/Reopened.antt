@@ -1,6 +1,6 @@
 -- What the promise on setting up says of an opening with the written U.
-use Rattle.std.proofs.Common.{◌≡◌, ℕ, take, Ok, Err, Option, sym, subst, arith, Bor}
-use Rattle.byte_strings.specs.Bytes.{Bytes}
+use Rattle.std.proofs.Common.{◌≡◌, ℕ, take, Ok, Err, Option, Result, sym, subst, arith, Bor}
+use Rattle.byte_strings.specs.Bytes.{Bytes, zeros}
 use Rattle.filters.specs.declared.tag.Tag.{Tag}
 use Rattle.methods.specs.Method.{Scheme}
 use Rattle.opening.specs.declared.fields.Fields.{Fields}
@@ -12,6 +12,9 @@ use Rattle.opening.specs.Open.{Opens}
 use Rattle.opening.specs.SetUp.{SetsUp}
 use Rattle.opening.specs.Laws.{with_u}
 use Rattle.promises.specs.Promises.{Enough, SameFile, SetUpOpens}
+use Rattle.usage.specs.declared.round_trip.Pair.{Pair}
+use Rattle.usage.specs.declared.round_trip.Settings.{Settings}
+use Rattle.usage.specs.RoundTrip.{PaperOf, PairOf, Reopened}
 
 module _ {M : Type 0} (scheme : M → Scheme) (series : Bytes → Option Tag) (promise : SetUpOpens scheme series)
     (f : Fields) (password work worked out written : Bytes) (a : File) (sets : SetsUp series f password work out (Ok a) worked written)
@@ -39,3 +42,20 @@ module _ {M : Type 0} (scheme : M → Scheme) (series : Bytes → Option Tag) (p
         (λ h. no-space (cc)),
       ) in
       let z : ◌≡◌ {A = ℕ} 0 1 = cc r.1 in omega arith
+
+-- what setting up and opening answered, as it is told
+pub reopened_told : (series : Bytes → Option Tag) (s : Settings) (f : Fields) (password work worked written after : Bytes) (made : File)
+    → SetsUp series f password work (zeros 32) (Ok made) worked written → PaperOf s f → (b : Bor Bytes) → b.now ≡ take 32 written
+    → (opening : Result File Refusal) → Opens series (with_u f b) password worked opening after → (r : Result Pair Refusal) → PairOf made opening r → Reopened series s password work r after
+reopened_told series s f password work worked written after made sets paper b is opening opens r pair = (
+  f,
+  paper,
+  (
+    Ok made,
+    (
+      written,
+      subst (λ w. SetsUp series f password work (zeros 32) (Ok made) w written) sets.zeroed sets,
+      (b, is, (opening, subst (λ w. Opens series (with_u f b) password w opening after) sets.zeroed opens, pair)),
+    ),
+  ),
+)

@@ -1,7 +1,10 @@
 // A paper that is set up, opened, and whose bytes are protected and restored.
 ghost use Rattle.opening.specs.File.{viewed};
 ghost use Rattle.promises.specs.Promises.{SameFile};
-ghost use Rattle.usage.specs.RoundTrip.{OpenedAgain, Returned};
+ghost use Rattle.std.specs.Prelude.{Result};
+ghost use Rattle.opening.specs.declared.refusal.Refusal.{Refusal};
+ghost use Rattle.usage.specs.declared.round_trip.Pair.{Pair};
+ghost use Rattle.usage.specs.RoundTrip.{OpenedAgain, Returned, Reopened, Carried, CarriedFrom};
 
 use filters::series::Series;
 use filters::table::{FilterEntry, FilterTable, Span};
@@ -50,7 +53,8 @@ fn set_up_and_open<S: Series, M: CryptMethod>(
     password: &[u8],
     work: &mut [u8],
 ) -> Result<Pair, Refusal>
-    ensures { OpenedAgain M.CryptMethod.scheme result }
+    ensures again { OpenedAgain M.CryptMethod.scheme result }
+    ensures told { Reopened (S.Series.meaning series.now) settings password.now work.old result work.new }
 {
     let entries = [FilterEntry {
         name: Span { offset: 0, len: 5 },
@@ -101,7 +105,8 @@ fn protect_and_restore<M: CryptMethod>(
     out: &mut [u8],
 ) -> Result<Output, Refusal>
     requires { SameFile M.CryptMethod.scheme (viewed pair.made) (viewed pair.file) }
-    ensures { Returned «data».now out.old result out.new }
+    ensures returned { Returned «data».now out.old result out.new }
+    ensures told { Carried pair (M.CryptMethod.scheme method.now) object vector.now «data».now stored.old stored.new out.old result out.new }
 {
     let n = protect_with(&pair.made, method, object, vector, data, stored)?;
     match restore_with(&pair.file, method, object, &stored[0..n], out) {
@@ -125,7 +130,8 @@ pub fn round_trip<S: Series, M: CryptMethod>(
     stored: &mut [u8],
     out: &mut [u8],
 ) -> Result<Output, Refusal>
-    ensures { Returned item.entry.«data».now out.old result out.new }
+    ensures returned { Returned item.entry.«data».now out.old result out.new }
+    ensures told { (pair : Result Pair Refusal) × Reopened (S.Series.meaning series.now) settings password.now work.old pair work.new × CarriedFrom pair (M.CryptMethod.scheme method.now) item.entry.object item.entry.vector.now item.entry.«data».now stored.old stored.new out.old result out.new }
 {
     let pair = set_up_and_open::<S, M>(series, settings, password, work)?;
     protect_and_restore(

@@ -1,5 +1,10 @@
 // Round trips by the methods that are shipped.
-ghost use Rattle.usage.specs.RoundTrip.{Returned};
+ghost use Rattle.std.specs.Prelude.{Result};
+ghost use Rattle.filters.specs.Tag.{standard_tag};
+ghost use Rattle.tagged.specs.Tag.{tag_scheme};
+ghost use Rattle.opening.specs.declared.refusal.Refusal.{Refusal};
+ghost use Rattle.usage.specs.declared.round_trip.Pair.{Pair};
+ghost use Rattle.usage.specs.RoundTrip.{Returned, Reopened, CarriedFrom};
 
 use crate::round_trip::{Item, Settings, round_trip};
 use filters::series::Series2;
@@ -18,7 +23,8 @@ pub fn round_trip_shipped(
     stored: &mut [u8],
     out: &mut [u8],
 ) -> Result<Output, Refusal>
-    ensures { Returned item.entry.«data».now out.old result out.new }
+    ensures told { (pair : Result Pair Refusal) × Reopened standard_tag settings password.now work.old pair work.new × CarriedFrom pair (tag_scheme tag) item.entry.object item.entry.vector.now item.entry.«data».now stored.old stored.new out.old result out.new }
+    ensures returned { Returned item.entry.«data».now out.old result out.new }
 {
     round_trip(&Series2, settings, password, work, &tag, item, stored, out)
 }

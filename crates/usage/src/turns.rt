@@ -2,7 +2,7 @@
 ghost use Rattle.opening.specs.File.{viewed};
 ghost use Rattle.reader.specs.Run.{standing};
 ghost use Rattle.reader.specs.Tag.{tag_means};
-ghost use Rattle.usage.specs.Turns.{calls, Turned, Restoring};
+ghost use Rattle.usage.specs.Turns.{calls, Turned, Restoring, Ran, InTurns};
 
 use filters::series::{Series1, Series2};
 use methods::method::CryptMethod;
@@ -36,7 +36,9 @@ fn take_turns<M: CryptMethod>(
     y: &mut [u8],
     z: &mut [u8],
 ) -> Turns
-    ensures { Turned M.CryptMethod.scheme (standing tag_means first.old) (standing M.State.Running.means second.old) (calls result p.now q.now w.old w.new x.old x.new y.old y.new z.old z.new) }
+    ensures first { Ran (standing tag_means first.old) p.now w.old result.first_fed w.new y.old result.first_closed y.new }
+    ensures second { Ran (standing M.State.Running.means second.old) q.now x.old result.second_fed x.new z.old result.second_closed z.new }
+    ensures turned { Turned M.CryptMethod.scheme (standing tag_means first.old) (standing M.State.Running.means second.old) (calls result p.now q.now w.old w.new x.old x.new y.old y.new z.old z.new) }
 {
     let first_fed = first.feed(p, w);
     let second_fed = second.feed(q, x);
@@ -64,7 +66,8 @@ pub fn in_turns<M: CryptMethod>(
     y: &mut [u8],
     z: &mut [u8],
 ) -> Result<Turns, Refusal>
-    ensures { Restoring (viewed file.now) target (M.CryptMethod.scheme method.now) object result (λ t. calls t p.now q.now w.old w.new x.old x.new y.old y.new z.old z.new) }
+    ensures told { InTurns (viewed file.now) target (M.CryptMethod.scheme method.now) object p.now q.now w.old x.old y.old z.old result w.new x.new y.new z.new }
+    ensures restoring { Restoring (viewed file.now) target (M.CryptMethod.scheme method.now) object result (λ t. calls t p.now q.now w.old w.new x.old x.new y.old y.new z.old z.new) }
 {
     let mut first = start(file, target, object)?;
     let mut second = start_with(file, method, object)?;

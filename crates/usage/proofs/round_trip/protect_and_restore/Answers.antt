@@ -14,8 +14,8 @@ unreachable-requires g c =
     c.told-vector c.fits-vector (λ i. (c.type_inv.data i).fits) c.in_ok-n.ensures (omega arith)
     c.in-Err.refusal c.in-Err.ensures c.in_default.not-WorkSpace c.in_default.not-USpace c.in_default.not-NoSpace
 
-pub returns-in-Ok : goal.returns-in-Ok
-returns-in-Ok g c =
+pub returns-in-Ok-clause-returned : goal.returns-in-Ok-clause-returned
+returns-in-Ok-clause-returned g c =
     returned (viewed c.args.pair.made) (viewed c.args.pair.file) (handed (g.M.CryptMethod.scheme c.args.method.now)) (c.requires.across.by_method c.args.method.now) c.args.object _ _ _ _ _ _ _ _
     c.told-vector c.fits-vector (λ i. (c.type_inv.data i).fits) c.in_ok-n.ensures (omega arith)
     c.in-Ok.output c.in-Ok.ensures

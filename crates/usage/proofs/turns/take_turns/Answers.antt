@@ -5,8 +5,8 @@ use Rattle.usage.specs.declared.turns.Turns.{Turns}
 use Rattle.usage.proofs.Interleaved.{turned}
 use Rattle.usage.proofs.turns.take_turns.Goals as goal
 
-pub returns : goal.returns
-returns g c =
+pub returns-clause-turned : goal.returns-clause-turned
+returns-clause-turned g c =
     let means = g.M.State.Running.means in
     let t : Turns = record {
       first_fed = c.feed-first_fed.result;
