@@ -1,10 +1,10 @@
 -- Restoring the framed form, piece by piece and whole.
-use Rattle.std.specs.Prelude.{◌≡◌, ℕ, ◌+◌, ◌-◌, ◌≤◌, min, Bool, true, false, cond, [], ◌∷◌, ◌++◌, length, take, drop, set, Some, None, Ok, Option, ◌==◌, ◌≢◌, nat_lt, slice_index, slice_set, refl}
+use Rattle.std.specs.Prelude.{◌≡◌, ℕ, ◌+◌, ◌-◌, ◌≤◌, min, Bool, true, false, cond, [], ◌∷◌, ◌++◌, length, take, drop, set, Some, None, Ok, Option, ◌==◌, ◌≢◌, nat_lt, slice_set, refl}
 use Rattle.std.proofs.Common.{sym, ap, subst, ◌∙◌, inl, inr, append_assoc, suc-le-suc, le_refl, arith, length-append, length-drop}
 use Rattle.std.proofs.Math.Nat.{sub-zero}
 use borrow.Rule.Slice.PartMut.{put_mid, post_of}
 use Rattle.std.proofs.Math.Seq.{drop-append-add}
-use Rattle.std.proofs.lemmas.List.{drop-append-le, drop_all, drop_at, append-nil, nil_from_length, take_all, take_at, take_more, take_rest, length-take-le, set-append_right, drop-drop}
+use Rattle.std.proofs.lemmas.List.{drop-append-le, drop_all, drop_at, append-nil, nil_from_length, take_at, take_rest, set-append_right, drop-drop}
 use Rattle.std.proofs.lemmas.Bool.{cases_lt, lt-ltb, le-ltb, eq-eqb, ne_eqb}
 use Rattle.std.specs.List.{IsLastAndRest}
 use Rattle.byte_strings.specs.Bytes.{Bytes, Writes}
