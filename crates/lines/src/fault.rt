@@ -1,4 +1,11 @@
 // What is wrong with a line, and why one has no other answer.
+ghost use Rattle.std.specs.Prelude.{◌≡◌};
+ghost use Rattle.lines.specs.declared.fault.Flaw.TheVariants.{NoMemory as FlawNoMemory};
+ghost use Rattle.lines.specs.declared.fault.Fault.TheVariants.{NoMemory};
+ghost use Rattle.lines.specs.declared.fault.CallError.TheVariants.{Refused};
+ghost use Rattle.lines.specs.declared.fault.LineError.TheVariants.{Malformed, Failed};
+ghost use Rattle.lines.specs.declared.fault.Stage.TheVariants.{Itself};
+
 use crate::key::Key;
 use opening::refusal::Refusal;
 use std::alloc::{AllocError, AllocFailed};
@@ -65,54 +72,72 @@ pub enum LineError {
 
 // Stays two impls for each error: one for all errors of memory would overlap with those of other errors.
 impl From<AllocError> for Flaw {
+    ghost from_gives = { λ _ flaw. flaw ≡ FlawNoMemory };
+
     fn from(_e: AllocError) -> Flaw {
         Flaw::NoMemory
     }
 }
 
 impl<T: Drop> From<AllocFailed<T>> for Flaw {
+    ghost from_gives = { λ _ flaw. flaw ≡ FlawNoMemory };
+
     fn from(_e: AllocFailed<T>) -> Flaw {
         Flaw::NoMemory
     }
 }
 
 impl From<AllocError> for Fault {
+    ghost from_gives = { λ _ fault. fault ≡ NoMemory };
+
     fn from(_e: AllocError) -> Fault {
         Fault::NoMemory
     }
 }
 
 impl<T: Drop> From<AllocFailed<T>> for Fault {
+    ghost from_gives = { λ _ fault. fault ≡ NoMemory };
+
     fn from(_e: AllocFailed<T>) -> Fault {
         Fault::NoMemory
     }
 }
 
 impl From<AllocError> for LineError {
+    ghost from_gives = { λ _ error. error ≡ Malformed NoMemory };
+
     fn from(e: AllocError) -> LineError {
         LineError::Malformed(Fault::from(e))
     }
 }
 
 impl<T: Drop> From<AllocFailed<T>> for LineError {
+    ghost from_gives = { λ _ error. error ≡ Malformed NoMemory };
+
     fn from(e: AllocFailed<T>) -> LineError {
         LineError::Malformed(Fault::from(e))
     }
 }
 
 impl From<Fault> for LineError {
+    ghost from_gives = { λ fault error. error ≡ Malformed fault };
+
     fn from(fault: Fault) -> LineError {
         LineError::Malformed(fault)
     }
 }
 
 impl From<CallError> for LineError {
+    ghost from_gives = { λ met error. error ≡ Failed Itself met };
+
     fn from(error: CallError) -> LineError {
         LineError::Failed(Stage::Itself, error)
     }
 }
 
 impl From<Refusal> for CallError {
+    ghost from_gives = { λ refusal error. error ≡ Refused refusal };
+
     fn from(refusal: Refusal) -> CallError {
         CallError::Refused(refusal)
     }
