@@ -50,20 +50,20 @@ pub(crate) fn first_word(line: &[u8]) -> &[u8] {
     Words(line).next().unwrap_or(line)
 }
 
-// The name and the value of a pair.
-pub(crate) fn pair(word: &[u8]) -> Option<(&[u8], &[u8])>
-    ensures { IfSome result (λ p. word.now ≡ p.0.now ++ (61 ∷ p.1.now)) }
+// The value of a word that is a pair of that name.
+pub(crate) fn value_of<'a>(word: &'a [u8], name: &[u8]) -> Option<&'a [u8]>
+    ensures { IfSome result (λ v. word.now ≡ name.now ++ (61 ∷ v.now)) }
 {
-    let at = word.iter().position(|b| *b == b'=')?;
-    Some((&word[..at], &word[at + 1..]))
+    let (front, behind) = word.split_at_checked(name.len())?;
+    match behind {
+        [b'=', value @ ..] if same(front, name) => Some(value),
+        _ => None,
+    }
 }
 
 // The value of the first pair of that name.
 pub(crate) fn value<'a>(line: &'a [u8], name: &[u8]) -> Option<&'a [u8]> {
-    Words(line).find_map(|word| {
-        let (found, value) = pair(word)?;
-        same(found, name).then_some(value)
-    })
+    Words(line).find_map(|word| value_of(word, name))
 }
 
 // The parts of a text that a byte parts.
