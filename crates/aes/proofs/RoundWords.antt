@@ -10,7 +10,7 @@ use Rattle.aes.specs.Direction.{substituted, shifted, columns_mixed, columns, co
 abbrev pub joins : Bytes → Bytes → Bytes → Bytes → Bytes
 joins a b c d = a ++ (b ++ (c ++ d))
 
-same_joins : {a b c d p q r t : Bytes} → a ≡ p → b ≡ q → c ≡ r → d ≡ t → joins a b c d ≡ joins p q r t
+pub same_joins : {a b c d p q r t : Bytes} → a ≡ p → b ≡ q → c ≡ r → d ≡ t → joins a b c d ≡ joins p q r t
 same_joins e f g h = ap₂ ◌++◌ e (ap₂ ◌++◌ f (ap₂ ◌++◌ g h))
 
 -- the elements of four lists of four

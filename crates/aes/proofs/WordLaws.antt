@@ -63,7 +63,7 @@ module _ (k : Bytes) (hk : Octets k) where
   packed-added a b c d ha hb hc hd = bytes_sum (packed a b c d) key ∙ ap₂ plus (bytes_packed a b c d ha hb hc hd) bytes_key
 
   -- the matrix whose first row is p q r t, by a word of products for each byte of the column a b c d, with the key's word added
-  by_tables : (p q r t a b c d : ℕ) → a < 256 → b < 256 → c < 256 → d < 256
+  pub by_tables : (p q r t a b c d : ℕ) → a < 256 → b < 256 → c < 256 → d < 256
       → bytes_of (bit_xor (sum4 (products p t r q a) (products q p t r b) (products r q p t c) (products t r q p d)) key) ≡ mixed p q r t a b c d k
   unfolding mixed added
   by_tables p q r t a b c d ha hb hc hd =

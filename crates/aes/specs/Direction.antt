@@ -40,10 +40,6 @@ abbrev pub column_substituted : Bool → Bytes → Bytes → Bytes
 column_substituted inverse c =
     added (substitute inverse (slice_index c 0)) (substitute inverse (slice_index c 1)) (substitute inverse (slice_index c 2)) (substitute inverse (slice_index c 3))
 
--- the table t holds the S-box
-abbrev pub Substitutes : Bool → Bytes → Type 0
-Substitutes inverse t = (x : ℕ) → x < 256 → slice_index t x ≡ substitute inverse x
-
 -- a table for each row of the state: the S-box s, and the matrix's column for that row
 pub record Rows (p q r t : ℕ) (s : ℕ → ℕ) (tables : List Bytes) : Type 0 where
   pub row_0 : (x : ℕ) → x < 256 → slice_index (slice_index_or tables 0 []) x ≡ products p t r q (s x)

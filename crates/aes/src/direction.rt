@@ -1,18 +1,18 @@
 // The two directions of a round, each by its tables and its shift of the rows. A word has its lowest byte first.
 ghost use Rattle.std.specs.Prelude.{◌≡◌, Bool, true, false};
-ghost use Rattle.aes.specs.Direction.{shifted, columns, Substitutes, RowsOf};
+ghost use Rattle.aes.specs.Direction.{substitute, shifted, columns, RowsOf};
 ghost use Rattle.aes.specs.Words.{unpacked};
 
-use crate::sbox::{INV_S_BOX, S_BOX};
+use crate::sbox::{inv_sub_byte, sub_byte};
 use crate::tables::{TD, TE};
 
 pub(crate) trait Direction {
     // Whether it is the inverse's.
     ghost inverse: { Bool };
 
-    // The S-box.
-    fn bytes() -> &'static [u8; 256]
-        ensures { Substitutes inverse result.now };
+    // One byte through the S-box.
+    fn byte(b: u8) -> u8
+        ensures { result ≡ substitute inverse b };
 
     // For each row of the state, what a byte in it adds to its column, by the S-box and the columns' matrix.
     fn rows() -> &'static [[u32; 256]; 4]
@@ -29,8 +29,8 @@ pub(crate) struct Forward;
 impl Direction for Forward {
     ghost inverse = { false };
 
-    fn bytes() -> &'static [u8; 256] {
-        &S_BOX
+    fn byte(b: u8) -> u8 {
+        sub_byte(b)
     }
 
     fn rows() -> &'static [[u32; 256]; 4] {
@@ -58,8 +58,8 @@ pub(crate) struct Inverse;
 impl Direction for Inverse {
     ghost inverse = { true };
 
-    fn bytes() -> &'static [u8; 256] {
-        &INV_S_BOX
+    fn byte(b: u8) -> u8 {
+        inv_sub_byte(b)
     }
 
     fn rows() -> &'static [[u32; 256]; 4] {

@@ -56,13 +56,12 @@ pub(crate) fn round<D: Direction>(key: &RoundKey, state: &[u32; 4]) -> [u32; 4]
 fn last_column<D: Direction>(bytes: &[u8; 4], key: &[u8; 4]) -> [u8; 4]
     ensures { result ≡ column_substituted D.inverse bytes.now key.now }
 {
-    let s_box = D::bytes();
     let [a, b, c, d] = *bytes;
     [
-        s_box[a as usize] ^ key[0],
-        s_box[b as usize] ^ key[1],
-        s_box[c as usize] ^ key[2],
-        s_box[d as usize] ^ key[3],
+        D::byte(a) ^ key[0],
+        D::byte(b) ^ key[1],
+        D::byte(c) ^ key[2],
+        D::byte(d) ^ key[3],
     ]
 }
 

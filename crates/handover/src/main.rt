@@ -7,6 +7,7 @@ use lines::cases::text_lines;
 use lines::job::Job;
 use lines::render::{Entry, Line};
 use lines::reply::Reply;
+use lines::series::Shipped;
 use promises::promises;
 use std::io::Read;
 use std::{env, fs};
@@ -80,8 +81,9 @@ fn carry_out(rt: &HostRuntime, style: Style, text: &[u8]) -> anyhow::Result<()> 
 }
 
 fn main(rt: HostRuntime) -> anyhow::Result<()> {
-    // what the calls below promise together, for the shipped series and methods
+    // what the calls below promise together, for the shipped series, the one that a line asks for, and the shipped methods
     promises::<Series1, Series2, DecryptorTag>();
+    promises::<Shipped, Shipped, DecryptorTag>();
     let options = read_options(&rt)?;
     let text = read_job(&rt, options.job)?;
     carry_out(&rt, options.style, text.as_slice())

@@ -2,8 +2,7 @@
 ghost use Rattle.std.specs.Prelude.{◌≡◌};
 ghost use Rattle.lines.specs.Key.{name_of};
 
-use crate::text::pair;
-use byte_strings::same;
+use crate::text::value_of;
 use std::fmt;
 
 // A pair's name.
@@ -120,10 +119,8 @@ impl Key {
 
 // Whether a word of a line is a pair whose name is known.
 pub(crate) fn is_known(word: &[u8]) -> bool {
-    match pair(word) {
-        Some((name, _)) => ALL.iter().any(|key| same(name, key.name().as_bytes())),
-        None => false,
-    }
+    ALL.iter()
+        .any(|key| value_of(word, key.name().as_bytes()).is_some())
 }
 
 impl fmt::Display for Key {

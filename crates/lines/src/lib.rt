@@ -16,5 +16,5 @@ mod papers;
 mod primitives;
 pub mod render;
 pub mod reply;
-mod series;
+pub mod series;
 mod text;

@@ -92,7 +92,7 @@ impl fmt::Display for ValueOf {
 }
 
 // An answer, or a part of one, as a line.
-#[derive(Clone, Copy)]
+#[derive_where(Clone, Copy)]
 pub struct Line<'a, T>(pub &'a T);
 
 impl fmt::Display for Line<'_, File> {
@@ -185,7 +185,7 @@ impl fmt::Display for Line<'_, Reply> {
 
 // An answer, or a part of one, in words.
 // Stays beside `Line`: the two differ in every text, and not in a constant.
-#[derive(Clone, Copy)]
+#[derive_where(Clone, Copy)]
 pub struct Record<'a, T>(pub &'a T);
 
 impl fmt::Display for Record<'_, File> {

@@ -12,7 +12,7 @@ use std::alloc::Global;
 
 // One of the two shipped series.
 #[derive(Clone, Copy)]
-pub(crate) enum Shipped {
+pub enum Shipped {
     First,
     Second,
 }

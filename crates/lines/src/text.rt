@@ -13,14 +13,6 @@ const QUOTE: u8 = b'"';
 #[derive(Drop)]
 pub(crate) struct Words<'a>(pub(crate) &'a [u8]);
 
-// Whether a byte ends a word: a space outside quotes.
-fn ends_word(quoted: &mut bool, b: u8) -> bool {
-    if b == QUOTE {
-        *quoted = !*quoted;
-    }
-    b == b' ' && !*quoted
-}
-
 impl<'a> Iterator for Words<'a> {
     type Item = &'a [u8];
 
@@ -31,17 +23,18 @@ impl<'a> Iterator for Words<'a> {
         if line.is_empty() {
             return None;
         }
+        // a loop, since `position` with a closure that keeps `quoted` was slower
         let mut quoted = false;
-        match line.iter().position(|b| ends_word(&mut quoted, *b)) {
-            Some(end) => {
+        for (end, b) in line.iter().enumerate() {
+            if *b == QUOTE {
+                quoted = !quoted;
+            } else if *b == b' ' && !quoted {
                 self.0 = &line[end + 1..];
-                Some(&line[..end])
-            }
-            None => {
-                self.0 = &[];
-                Some(line)
+                return Some(&line[..end]);
             }
         }
+        self.0 = &[];
+        Some(line)
     }
 }
 
@@ -50,20 +43,19 @@ pub(crate) fn first_word(line: &[u8]) -> &[u8] {
     Words(line).next().unwrap_or(line)
 }
 
-// The name and the value of a pair.
-pub(crate) fn pair(word: &[u8]) -> Option<(&[u8], &[u8])>
-    ensures { IfSome result (λ p. word.now ≡ p.0.now ++ (61 ∷ p.1.now)) }
+// The value of a word that is a pair of that name.
+#[tactic(auto, using(crate::proofs::Pairs::pair_of))]
+pub(crate) fn value_of<'a>(word: &'a [u8], name: &[u8]) -> Option<&'a [u8]>
+    ensures { IfSome result (λ v. word.now ≡ name.now ++ (61 ∷ v.now)) }
 {
-    let at = word.iter().position(|b| *b == b'=')?;
-    Some((&word[..at], &word[at + 1..]))
+    let (front, behind) = word.split_at_checked(name.len())?;
+    let (first, value) = behind.split_first()?;
+    (*first == b'=' && same(front, name)).then_some(value)
 }
 
 // The value of the first pair of that name.
 pub(crate) fn value<'a>(line: &'a [u8], name: &[u8]) -> Option<&'a [u8]> {
-    Words(line).find_map(|word| {
-        let (found, value) = pair(word)?;
-        same(found, name).then_some(value)
-    })
+    Words(line).find_map(|word| value_of(word, name))
 }
 
 // The parts of a text that a byte parts.
@@ -92,16 +84,19 @@ fn hex_digit(b: u8) -> Option<u8>
 
 // The bytes that hexadecimal digits stand for.
 fn unhex(heap: Global, text: &[u8]) -> Result<Vec<u8>, Flaw> {
-    let (pairs, []) = text.as_chunks::<2>() else {
-        return Err(Flaw::NotHex);
-    };
+    let (pairs, single) = text.as_chunks::<2>();
     let mut out = Vec::new(heap);
     for [high, low] in pairs {
         let high = hex_digit(*high).ok_or(Flaw::NotHex)?;
         let low = hex_digit(*low).ok_or(Flaw::NotHex)?;
         out.push(high * 16 + low)?;
     }
-    Ok(out)
+    // looked at last: where there is no memory for the pairs, that is what is wrong
+    if single.is_empty() {
+        Ok(out)
+    } else {
+        Err(Flaw::NotHex)
+    }
 }
 
 // The bytes of a value: text in quotes, or hexadecimal.

@@ -56,7 +56,7 @@ module _ (ws : List ℕ) (i : ℕ) (v : Registers) (f g s r : ℕ) where
       ap₂ (λ m n. rotated (sum32 (sum32 (sum32 v.a m) (get_or sines i 0)) (get_or ws n 0)) s) hf hg ∙ ap (rotated (sum32 (sum32 (sum32 v.a (mixed i v)) (get_or sines i 0)) (get_or ws (word_number i) 0))) shift.is in
       ap (with_b v) (hr ∙ code ∙ parts)
 
-steps_more : (ws : List ℕ) (v : Registers) (n : ℕ) → steps ws v (n + 1) ≡ step ws n (steps ws v n)
+pub steps_more : (ws : List ℕ) (v : Registers) (n : ℕ) → steps ws v (n + 1) ≡ step ws n (steps ws v n)
 unfolding steps
 steps_more ws v n = rw add-one refl
 

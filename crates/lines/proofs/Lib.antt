@@ -1,0 +1,2 @@
+-- A lemma on the pairs of a line.
+mod Pairs
